@@ -4,15 +4,15 @@ use mathlib.Core.List.{List, [], _∷_, _++_}
 use Prim.Native.Nat.{ℕ}
 use lib.Dec.{leb}
 use lib.ListN.{length, drop}
-use Rattle.std.specs.Written.{decimal}
 use Rattle.std.specs.declared.result.Result.{Result}
 use Rattle.std.specs.declared.result.Result.the-variants.{Ok, Err}
 use Rattle.std.specs.shelf.Lists.{joined}
+use Rattle.fields.specs.Numbers.{numeral}
 use Rattle.fields.specs.declared.writing.TooShort.{TooShort}
 
 -- each number after a tab
 abbrev pub numbersText : List ℕ → List ℕ
-numbersText ns = joined (λ n. 9 ∷ decimal n) ns
+numbersText ns = joined (λ n. 9 ∷ numeral n) ns
 
 -- a letter and numbers, tab-separated and ended by a line feed
 abbrev pub lineText : ℕ → List ℕ → List ℕ

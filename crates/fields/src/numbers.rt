@@ -3,9 +3,8 @@
 ghost use mathlib.Core.Path.{_≡_};
 ghost use Prim.Native.Nat.{ℕ, _≤_, _<_, _^_};
 ghost use Rattle.std.specs.Options.{Cases as BySome};
-ghost use Rattle.std.specs.Written.{decimal};
 ghost use lib.ListN.{length};
-ghost use Rattle.fields.specs.Numbers.{numberOf, readOn, shapely};
+ghost use Rattle.fields.specs.Numbers.{numberOf, numeral, readOn, shapely};
 
 // The most digits of a number.
 pub const MOST_DIGITS: usize = 9;
@@ -36,7 +35,7 @@ fn read_digits(field: &[u8]) -> Option<u32>
 // The number that a field writes in one to nine digits, with no zero before another digit; none where it writes no number.
 pub fn parse_number(field: &[u8]) -> Option<u32>
     ensures value { λ r. ⌜ r ≡ numberOf (now (field .entry)) ⌝ }
-    ensures written { λ r. ⌜ BySome r ((n : ℕ) → n < 10 ^ 9 → now (field .entry) ≡ decimal n → ⊥) (λ n. (n < 10 ^ 9) × (now (field .entry) ≡ decimal n)) ⌝ }
+    ensures written { λ r. ⌜ BySome r ((n : ℕ) → n < 10 ^ 9 → now (field .entry) ≡ numeral n → ⊥) (λ n. (n < 10 ^ 9) × (now (field .entry) ≡ numeral n)) ⌝ }
 {
     if is_shapely(field) {
         read_digits(field)

@@ -6,8 +6,8 @@ ghost use mathlib.Core.List.{List, _++_};
 ghost use Prim.Native.Nat.{ℕ, _+_, _≤_, _<_, _^_};
 ghost use lib.Dec.{leb};
 ghost use lib.ListN.{length, drop, take};
-ghost use Rattle.std.specs.Written.{decimal};
 ghost use Rattle.std.specs.declared.result.Result.the-variants.{Ok, Err};
+ghost use Rattle.fields.specs.Numbers.{numeral};
 ghost use Rattle.fields.specs.Lines.{numbersText, lineText, overlaid, lengthIn, overlaidIn};
 
 // The buffer is too short for what would be written.
@@ -16,7 +16,7 @@ pub struct TooShort;
 
 // How many digits a number has.
 fn digit_count(number: usize) -> usize
-    ensures count { λ r. ⌜ r ≡ length (decimal number) ⌝ }
+    ensures count { λ r. ⌜ r ≡ length (numeral number) ⌝ }
     ensures small { λ r. ⌜ r ≤ 20 ⌝ }
 {
     if number < 10 {
@@ -28,9 +28,9 @@ fn digit_count(number: usize) -> usize
 
 // Writes a number's digits at the start of a space that has room for them, and says how many.
 fn put_number(number: usize, space: &mut [u8]) -> usize
-    requires { ⌜ length (decimal number) ≤ length (now space) ⌝ }
-    ensures count { λ r. ⌜ r ≡ length (decimal number) ⌝ }
-    ensures after { λ _. ⌜ now (space .exit) ≡ overlaid (decimal number) (now (space .entry)) ⌝ }
+    requires { ⌜ length (numeral number) ≤ length (now space) ⌝ }
+    ensures count { λ r. ⌜ r ≡ length (numeral number) ⌝ }
+    ensures after { λ _. ⌜ now (space .exit) ≡ overlaid (numeral number) (now (space .entry)) ⌝ }
 {
     let digit = (number % 10) as u8 + b'0';
     if number < 10 {

@@ -5,8 +5,8 @@ use native.Mathlib.Omega.{arith}
 use borrow.Author.Needs.{needs}
 use borrow.Rule.Slice.PartMut.{putMid}
 use lib.ListN.{length, take, drop, getD, set}
-use Rattle.std.specs.Written.{decimal}
 use Rattle.std.proofs.shelf.Lists.{at-drop-all, take-all, length-set, length-append, length-push, append-assoc}
+use Rattle.fields.specs.Numbers.{numeral}
 use Rattle.fields.specs.Lines.{numbersText, overlaid}
 use Rattle.fields.proofs.Sizes.{size-more, text-more}
 use Rattle.fields.proofs.Overlaid.{overlaid-push, overlaid-part, room-from}
@@ -27,7 +27,7 @@ part-put-number-start c =
 pub put-number-requires : need.put-number-requires
 put-number-requires c κs =
     let s : List ℕ = set (c .loop-number .space) (c .loop-number .at) 9 in
-    room-from s (c .loop-number .at + 1) (length (decimal (getD (c .args .numbers .now) (c .loop-number .number-index) 0)))
+    room-from s (c .loop-number .at + 1) (length (numeral (getD (c .args .numbers .now) (c .loop-number .number-index) 0)))
     (omega (arith, length-set (c .loop-number .space) (c .loop-number .at) 9, size-more (c .args .numbers .now) (c .loop-number .number-index) (omega arith)))
 
 pub add-at-in-loop-number-2 : need.add-at-in-loop-number-2
@@ -45,10 +45,10 @@ module _ (ns ys : List ℕ) (i at : ℕ) (h : i < length ns) (e : at ≡ length 
   longer = length-push front 9 ∙ ap (λ n. n + 1) (sym e)
 
   pub stepped : (s t : List ℕ) → s ≡ overlaid front ys
-      → t ≡ overlaid (decimal (getD ns i 0)) (take (length (set s at 9) - (at + 1)) (drop (at + 1) (set s at 9)))
+      → t ≡ overlaid (numeral (getD ns i 0)) (take (length (set s at 9) - (at + 1)) (drop (at + 1) (set s at 9)))
       → putMid (at + 1) (length (set s at 9) - (at + 1)) (set s at 9) t ≡ overlaid (numbersText (take (i + 1) ns)) ys
   stepped s t p q =
-      let digits : List ℕ = decimal (getD ns i 0) in
+      let digits : List ℕ = numeral (getD ns i 0) in
       ap (putMid (at + 1) (length (set s at 9) - (at + 1)) (set s at 9)) q
       ∙ overlaid-part (set s at 9) (front ++ 9 ∷ []) digits ys (at + 1) (ap (λ l. set l at 9) p ∙ tabbed) (sym longer)
       ∙ ap (λ l. overlaid l ys) (append-assoc front (9 ∷ []) digits ∙ sym (text-more ns i h))
@@ -57,7 +57,7 @@ pub loop-number-again : need.loop-number-again
 loop-number-again c =
     let size = size-more (c .args .numbers .now) (c .loop-number .number-index) (omega arith) in
     let text = text-more (c .args .numbers .now) (c .loop-number .number-index) (omega arith) in (
-      omega (arith, ap length text, length-append (numbersText (take (c .loop-number .number-index) (c .args .numbers .now))) (9 ∷ decimal (getD (c .args .numbers .now) (c .loop-number .number-index) 0)), c .put-number .ensures .count),
+      omega (arith, ap length text, length-append (numbersText (take (c .loop-number .number-index) (c .args .numbers .now))) (9 ∷ numeral (getD (c .args .numbers .now) (c .loop-number .number-index) 0)), c .put-number .ensures .count),
       omega (arith, size, c .put-number .ensures .count),
       stepped (c .args .numbers .now) (c .args .space .now) (c .loop-number .number-index) (c .loop-number .at) (omega arith) (c .loop-number .inv .0)
           (omega (arith, size)) (c .loop-number .space) (c .put-number .last .space) (c .loop-number .inv .2) (c .put-number .ensures .after),

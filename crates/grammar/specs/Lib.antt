@@ -1,0 +1,5 @@
+pub mod Refusals
+pub mod Labels
+pub mod Reading
+pub mod Writing
+pub mod Pointing

@@ -1,0 +1,68 @@
+// What can be wrong with a field, a line and a text. A definition gives each case its number.
+
+// What is wrong with a field.
+#[derive(Clone, Copy, PartialEq, Eq, Debug)]
+pub enum FieldTrouble {
+    // It is no number.
+    NoNumber,
+    // Its number lies outside what the label allows there.
+    OutOfRange,
+    // It says another count of label fields than the wanted label type has.
+    LabelCount,
+    // It names a vertex that the text has not stated.
+    MissingVertex,
+}
+
+// A faulty field of a line, by its number: 1 for the first.
+#[derive(Clone, Copy, PartialEq, Eq, Debug)]
+pub struct FieldFault {
+    pub field: usize,
+    pub trouble: FieldTrouble,
+}
+
+// What is wrong with a line.
+#[derive(Clone, Copy, PartialEq, Eq, Debug)]
+pub enum LineFault {
+    // The text stops before its `e` line.
+    TextStops,
+    // The line has no line feed.
+    NoLineFeed,
+    // The line's first field is no letter that is allowed there.
+    Letter,
+    // The line has another count of fields than its letter asks.
+    FieldCount,
+    // One of the fields is faulty.
+    InField(FieldFault),
+    // The tie runs from a vertex to itself.
+    OwnTie,
+    // An earlier tie runs between the same vertices in the same direction.
+    RepeatedPair,
+    // The list that the line would fill is full.
+    NoRoom,
+}
+
+// A faulty line of a text, by the text's number, which the caller gives, and its own: 1 for the first.
+#[derive(Clone, Copy, PartialEq, Eq, Debug)]
+pub struct FaultyLine {
+    pub text: usize,
+    pub line: usize,
+    pub fault: LineFault,
+}
+
+// What is wrong with a text.
+#[derive(Clone, Copy, PartialEq, Eq, Debug)]
+pub enum TextFault {
+    // The text of this number has too many bytes.
+    TooLong(usize),
+    // One of its lines is faulty.
+    InLine(FaultyLine),
+}
+
+// A refusal in numbers: what is wrong, and in which text, line and field, with 0 where there is none.
+#[derive(Clone, Copy, PartialEq, Eq, Debug)]
+pub struct Refusal {
+    pub number: usize,
+    pub text: usize,
+    pub line: usize,
+    pub field: usize,
+}
