@@ -1,3 +1,4 @@
 pub mod Decimals
 pub mod Overlaid
 pub mod Sizes
+pub mod Splits

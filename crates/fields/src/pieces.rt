@@ -13,7 +13,7 @@ pub struct Piece<'a> {
 }
 
 // Hands out the pieces of a text one after another. A text has one piece more than separators, so the last may be empty.
-#[derive(Drop)]
+#[derive(Clone, Copy)]
 pub struct Pieces<'a> {
     text: &'a [u8],
     separator: u8,

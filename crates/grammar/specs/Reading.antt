@@ -79,18 +79,18 @@ graphLine form fs =
     (andThen InField (numberIn 2 (only (width form)) LabelCount (firstOf fs)) (λ _. Ok Graph))
     (Err FieldCount)
 
-abbrev pub vertexLine : {L : Type 0} → Form L → Counts → ℕ → List (List ℕ) → Result (Record L) LineFault
+abbrev pub vertexLine : {L : Type 0} → Form L → ℕ → ℕ → List (List ℕ) → Result (Record L) LineFault
 vertexLine form room n fs =
     cond (eqb (length fs) (width form))
-    (andThen InField (labelIn form 2 fs) (λ l. cond (ltb n (room .vertices)) (Ok (Vertex l)) (Err NoRoom)))
+    (andThen InField (labelIn form 2 fs) (λ l. cond (ltb n room) (Ok (Vertex l)) (Err NoRoom)))
     (Err FieldCount)
 
 -- a tie whose fields are good
-abbrev pub newTie : {L : Type 0} → Counts → List (Tie L) → Tie L → Result (Record L) LineFault
+abbrev pub newTie : {L : Type 0} → ℕ → List (Tie L) → Tie L → Result (Record L) LineFault
 newTie room ts t =
     cond (eqb (t .from) (t .to)) (Err OwnTie)
     (cond (hasPair ts (t .from) (t .to)) (Err RepeatedPair)
-    (cond (ltb (length ts) (room .ties)) (Ok (Tied t)) (Err NoRoom)))
+    (cond (ltb (length ts) room) (Ok (Tied t)) (Err NoRoom)))
 
 abbrev pub tieIn : {L : Type 0} → Form L → ℕ → List (List ℕ) → Result (Tie L) FieldFault
 tieIn form n fs =
@@ -98,7 +98,7 @@ tieIn form n fs =
     andThen (λ e. e) (numberIn 3 (below n) MissingVertex (firstOf (restOf fs))) (λ v.
     andThen (λ e. e) (labelIn form 4 (restOf (restOf fs))) (λ l. Ok (record { from = u; to = v; label = l }))))
 
-abbrev pub tieLine : {L : Type 0} → Form L → Counts → ℕ → List (Tie L) → List (List ℕ) → Result (Record L) LineFault
+abbrev pub tieLine : {L : Type 0} → Form L → ℕ → ℕ → List (Tie L) → List (List ℕ) → Result (Record L) LineFault
 tieLine form room n ts fs =
     cond (eqb (length fs) (2 + width form)) (andThen InField (tieIn form n fs) (newTie room ts)) (Err FieldCount)
 
@@ -115,10 +115,10 @@ letterOf (b ∷ c ∷ bs) = 0
 abbrev pub byLetter : {L : Type 0} → Form L → Counts → Stage → ℕ → List (Tie L) → ℕ → List (List ℕ) → Result (Record L) LineFault
 byLetter form room Opening n ts letter fs = cond (eqb letter 103) (graphLine form fs) (Err Letter)
 byLetter form room Vertices n ts letter fs =
-    cond (eqb letter 110) (vertexLine form room n fs)
-    (cond (eqb letter 116) (tieLine form room n ts fs) (cond (eqb letter 101) (endLine fs) (Err Letter)))
+    cond (eqb letter 110) (vertexLine form (room .vertices) n fs)
+    (cond (eqb letter 116) (tieLine form (room .ties) n ts fs) (cond (eqb letter 101) (endLine fs) (Err Letter)))
 byLetter form room Ties n ts letter fs =
-    cond (eqb letter 116) (tieLine form room n ts fs) (cond (eqb letter 101) (endLine fs) (Err Letter))
+    cond (eqb letter 116) (tieLine form (room .ties) n ts fs) (cond (eqb letter 101) (endLine fs) (Err Letter))
 byLetter form room Closed n ts letter fs = Err Letter
 
 abbrev pub recordOf : {L : Type 0} → Form L → Counts → Stage → ℕ → List (Tie L) → List ℕ → Result (Record L) LineFault

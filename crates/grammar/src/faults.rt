@@ -1,5 +1,9 @@
 // What can be wrong with a field, a line and a text. A definition gives each case its number.
 
+ghost use mathlib.Core.Path.{_≡_};
+ghost use Rattle.grammar.specs.declared.faults.LineFault.the-variants.{InField};
+ghost use Rattle.grammar.specs.declared.faults.TextFault.the-variants.{InLine};
+
 // What is wrong with a field.
 #[derive(Clone, Copy, PartialEq, Eq, Debug)]
 pub enum FieldTrouble {
@@ -65,4 +69,22 @@ pub struct Refusal {
     pub text: usize,
     pub line: usize,
     pub field: usize,
+}
+
+// A field fault lies inside a line fault.
+pub impl From<FieldFault> for LineFault as LineFaultFromField {
+    ghost converts = { λ fault r. r ≡ InField fault };
+
+    fn from(fault: FieldFault) -> LineFault {
+        LineFault::InField(fault)
+    }
+}
+
+// A text fault holds the line fault whole.
+pub impl From<FaultyLine> for TextFault as TextFaultFromLine {
+    ghost converts = { λ fault r. r ≡ InLine fault };
+
+    fn from(fault: FaultyLine) -> TextFault {
+        TextFault::InLine(fault)
+    }
 }

@@ -56,10 +56,29 @@ impl<'a> Pieces<'a> {
         })
     }
 
+    // The place of the next piece, also where there is none: 1 at first.
+    pub fn place(&self) -> usize
+        ensures { λ r. ⌜ r ≡ given (now (self .entry)) + 1 ⌝ }
+    {
+        self.count + 1
+    }
+
     // Whether every piece has been handed out.
     pub fn is_done(&self) -> bool
         ensures { λ r. ⌜ r ≡ ended (left (now (self .entry))) ⌝ }
     {
         self.start > self.text.len()
+    }
+
+    // How many pieces are yet to be handed out.
+    pub fn remaining(&self) -> usize
+        ensures { λ r. ⌜ r ≡ length (left (now (self .entry))) ⌝ }
+    {
+        let mut rest = *self;
+        let mut count = 0;
+        while let Some(_) = rest.next() {
+            count += 1;
+        }
+        count
     }
 }
