@@ -22,6 +22,10 @@ lineText letter ns = letter ∷ (numbersText ns ++ 10 ∷ [])
 abbrev pub overlaid : {X : Type 0} → List X → List X → List X
 overlaid xs ys = xs ++ drop (length xs) ys
 
+-- the number of the refusal that a buffer is too short
+abbrev pub tooShortNumber : TooShort → ℕ
+tooShortNumber _ = 15
+
 -- the answer of a call that writes a text at the start of a buffer: its length, or that the buffer is too short
 abbrev pub lengthIn : List ℕ → List ℕ → Result ℕ TooShort
 lengthIn text buffer = cond (leb (length text) (length buffer)) (Ok (length text)) (Err (record {}))

@@ -8,11 +8,20 @@ ghost use lib.Dec.{leb};
 ghost use lib.ListN.{length, drop, take};
 ghost use Rattle.std.specs.declared.result.Result.the-variants.{Ok, Err};
 ghost use Rattle.fields.specs.Numbers.{numeral};
-ghost use Rattle.fields.specs.Lines.{numbersText, lineText, overlaid, lengthIn, overlaidIn};
+ghost use Rattle.fields.specs.Lines.{numbersText, lineText, overlaid, lengthIn, overlaidIn, tooShortNumber};
 
 // The buffer is too short for what would be written.
 #[derive(Clone, Copy, PartialEq, Eq, Debug)]
 pub struct TooShort;
+
+impl TooShort {
+    // The number of the refusal.
+    pub fn number(self) -> usize
+        ensures { λ r. ⌜ r ≡ tooShortNumber self ⌝ }
+    {
+        15
+    }
+}
 
 // How many digits a number has.
 fn digit_count(number: usize) -> usize

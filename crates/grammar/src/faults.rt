@@ -1,6 +1,7 @@
 // What can be wrong with a field, a line and a text. A definition gives each case its number.
 
 ghost use mathlib.Core.Path.{_≡_};
+ghost use Rattle.grammar.specs.Refusals.{troubleNumber, lineFaultNumber, fieldOf, refusalOf};
 ghost use Rattle.grammar.specs.declared.faults.LineFault.the-variants.{InField};
 ghost use Rattle.grammar.specs.declared.faults.TextFault.the-variants.{InLine};
 
@@ -86,5 +87,70 @@ pub impl From<FaultyLine> for TextFault as TextFaultFromLine {
 
     fn from(fault: FaultyLine) -> TextFault {
         TextFault::InLine(fault)
+    }
+}
+
+impl FieldTrouble {
+    // The number of the refusal: 5 or 6.
+    pub fn number(self) -> usize
+        ensures { λ r. ⌜ r ≡ troubleNumber self ⌝ }
+    {
+        match self {
+            FieldTrouble::NoNumber => 5,
+            FieldTrouble::OutOfRange => 6,
+            FieldTrouble::LabelCount => 6,
+            FieldTrouble::MissingVertex => 6,
+        }
+    }
+}
+
+impl LineFault {
+    // The number of the refusal: 2 to 8.
+    pub fn number(self) -> usize
+        ensures { λ r. ⌜ r ≡ lineFaultNumber self ⌝ }
+    {
+        match self {
+            LineFault::TextStops => 2,
+            LineFault::NoLineFeed => 2,
+            LineFault::Letter => 3,
+            LineFault::FieldCount => 4,
+            LineFault::InField(fault) => fault.trouble.number(),
+            LineFault::OwnTie => 7,
+            LineFault::RepeatedPair => 7,
+            LineFault::NoRoom => 8,
+        }
+    }
+
+    // The faulty field of the line, or 0 where the fault is the line's.
+    pub fn field(self) -> usize
+        ensures { λ r. ⌜ r ≡ fieldOf self ⌝ }
+    {
+        match self {
+            LineFault::Letter => 1,
+            LineFault::InField(fault) => fault.field,
+            _ => 0,
+        }
+    }
+}
+
+impl TextFault {
+    // The refusal in numbers. A text that is too long is refusal 1, in line 0.
+    pub fn refusal(self) -> Refusal
+        ensures { λ r. ⌜ r ≡ refusalOf self ⌝ }
+    {
+        match self {
+            TextFault::TooLong(text) => Refusal {
+                number: 1,
+                text,
+                line: 0,
+                field: 0,
+            },
+            TextFault::InLine(faulty) => Refusal {
+                number: faulty.fault.number(),
+                text: faulty.text,
+                line: faulty.line,
+                field: faulty.fault.field(),
+            },
+        }
     }
 }

@@ -49,9 +49,9 @@ reads-on : {L : Type 0} (form : Form L) (room : Counts) (number : ℕ) (s : Stat
 reads-on {L} form room number s k line lines r goes e =
     cond-false (ended lines) _ _ goes
     ∙ ap (λ x. elim x as (λ _. Outcome L) [
-        Ok y ↦ readOn form room number (added s y) (k + 1) lines
+      | Ok y ↦ readOn form room number (added s y) (k + 1) lines
       | Err f ↦ record { state = s; answer = Err (InLine (record { text = number; line = k; fault = f })) }
-      ]) e
+    ]) e
 
 -- one entry more of a list whose front is filled
 front-more : {X : Type 0} (n : ℕ) (xs xs₀ : List X) (x : X) → n < length xs → Front n xs xs₀ → Front (n + 1) (set xs n x) xs₀
@@ -113,8 +113,7 @@ module _ {L : Type 0} (form : Form L) (number : ℕ) (text : List ℕ) (vs₀ : 
   turn r inv goes e =
       let h : Has r = room-for r (inv .1) (inv .2) e in
       let e′ : recordOf form (roomIn vs₀ ts₀) (p .stage) (length (take n vs)) (take m ts) line ≡ Ok r
-        = ap (λ c. recordOf form (roomIn vs₀ ts₀) (p .stage) c (take m ts) line) (length-take-le n vs (inv .1 .0)) ∙ e in
-      (
+      = ap (λ c. recordOf form (roomIn vs₀ ts₀) (p .stage) c (take m ts) line) (length-take-le n vs (inv .1 .0)) ∙ e in (
         ap (λ s. readOn form (roomIn vs₀ ts₀) number s (k + 1) lines) (stored-more r h)
             ∙ sym (reads-on form (roomIn vs₀ ts₀) number (stored p vs ts) k line lines r goes e′)
             ∙ inv .0,

@@ -7,6 +7,7 @@ ghost use Rattle.std.specs.Results.{Cases};
 ghost use Rattle.fields.specs.Split.{left};
 ghost use Rattle.grammar.specs.Labels.{width};
 ghost use Rattle.grammar.specs.Reading.{numberIn, labelIn, firstOf, restOf, letterOf, graphLine, vertexLine, hasPair, tieIn, newTie, tieLine, endLine, recordOf};
+use super::labels::Label;
 use fields::Pieces;
 use fields::parse_number;
 use grammar::Counts;
@@ -19,7 +20,6 @@ use grammar::Record;
 use grammar::Stage;
 use graphs::Tie;
 use graphs::TieClone;
-use super::labels::Label;
 
 // The letter that a field is, or the character 0 where the field is not one byte.
 fn letter_of(field: &[u8]) -> char

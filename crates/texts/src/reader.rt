@@ -6,6 +6,8 @@ ghost use lib.ListN.{length, set, take};
 ghost use Rattle.fields.specs.Lines.{overlaid};
 ghost use Rattle.grammar.specs.Reading.{closing, reading, recordOf};
 ghost use Rattle.texts.specs.Storing.{placedAt, HasRoom, stageAfter, countsAfter, verticesAfter, tiesAfter, roomIn};
+use super::labels::Label;
+use super::lines::read_line;
 use fields::Pieces;
 use grammar::Counts;
 use grammar::FaultyLine;
@@ -16,8 +18,6 @@ use grammar::TextFault;
 use grammar::TextFaultFromLine;
 use graphs::Tie;
 use graphs::TieClone;
-use super::labels::Label;
-use super::lines::read_line;
 
 // The most bytes that a text may have.
 pub const MOST_BYTES: usize = 1_000_000;
@@ -40,7 +40,13 @@ fn read_next<L: Label>(
     ensures { λ r. ⌜ r ≡ recordOf (L·Label .form) room (progress .stage) (progress .counts .vertices) (take (progress .counts .ties) (now (ties .entry))) (now (line .entry)) ⌝ }
 {
     let tied = progress.counts.ties;
-    read_line(line, progress.stage, progress.counts.vertices, &ties[0..tied], room)
+    read_line(
+        line,
+        progress.stage,
+        progress.counts.vertices,
+        &ties[0..tied],
+        room,
+    )
 }
 
 // A line's fault with its place.

@@ -31,8 +31,8 @@ pub loop-tie-again : need.loop-tie-again
 loop-tie-again g c =
     sym (passed (c .args .ties .now) (c .args .from) (c .args .to) (c .loop-tie .tie-index) (c .tie-item .result) (omega arith) (c .tie-item .is)
     (elim (c .else-tie-from .came) [
-      else-tie-from·by·then-tie-from·else-tie-to w ↦ and-right _ _ (ne-eqb _ _ (w .if-tie-to .left))
-    | else-tie-from·by·else-tie-from w ↦ and-left _ _ (ne-eqb _ _ (w .if-tie-from .left))
+      | else-tie-from·by·then-tie-from·else-tie-to w ↦ and-right _ _ (ne-eqb _ _ (w .if-tie-to .left))
+      | else-tie-from·by·else-tie-from w ↦ and-left _ _ (ne-eqb _ _ (w .if-tie-from .left))
     ]))
     ∙ c .loop-tie .inv
 

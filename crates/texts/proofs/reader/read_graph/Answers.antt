@@ -21,9 +21,9 @@ loop-line-again g c =
     let goes : ended (left (c .next .last .self)) ≡ false = sym (c .is-done .ensures) ∙ c .if-is-done .left in
     let said = sym (c .read-next-read .ensures) ∙ placed-ok (c .args .number) (c .in-Some .line .place) (c .read-next-read .result) (c .in-Continue-said .said) (sym (c .placed .ensures) ∙ c .in-Continue-said .was tt) in
     let here : List (List ℕ) → Type 0
-      = λ ls. Filling (g .L·Label .form) (c .args .number) (c .args .text .now) (c .args .vertices .now) (c .args .ties .now) (c .loop-line .progress) (c .loop-line .vertices) (c .loop-line .ties) (given (c .loop-line .lines) + 1) ls in
+    = λ ls. Filling (g .L·Label .form) (c .args .number) (c .args .text .now) (c .args .vertices .now) (c .args .ties .now) (c .loop-line .progress) (c .loop-line .vertices) (c .loop-line .ties) (given (c .loop-line .lines) + 1) ls in
     let there : ℕ → Type 0
-      = λ k. Filling (g .L·Label .form) (c .args .number) (c .args .text .now) (c .args .vertices .now) (c .args .ties .now) (c .store-progress .result) (c .store-progress .last .vertices) (c .store-progress .last .ties) (k + 1) (left (c .next .last .self)) in
+    = λ k. Filling (g .L·Label .form) (c .args .number) (c .args .text .now) (c .args .vertices .now) (c .args .ties .now) (c .store-progress .result) (c .store-progress .last .vertices) (c .store-progress .last .ties) (k + 1) (left (c .next .last .self)) in
     subst there (sym (c .in-Some .ensures tt .2))
     (turned (g .L·Label .form) (c .args .number) (c .args .text .now) (c .args .vertices .now) (c .args .ties .now) (c .loop-line .progress) (c .loop-line .vertices) (c .loop-line .ties)
     (given (c .loop-line .lines) + 1) (c .in-Some .line .bytes .now) (left (c .next .last .self)) (c .in-Continue-said .said)
