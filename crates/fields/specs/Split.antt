@@ -1,9 +1,13 @@
 -- A text cut into pieces at each separator.
+use mathlib.Core.Path.{_≡_}
 use mathlib.Core.Bool.{Bool, true, false, cond}
 use mathlib.Core.List.{List, [], _∷_, _++_}
-use Prim.Native.Nat.{ℕ}
+use Prim.Native.Nat.{ℕ, _+_}
 use lib.Dec.{eqb, leb}
 use lib.ListN.{length, drop}
+use Rattle.std.specs.declared.option.Option.{Option}
+use Rattle.std.specs.declared.option.Option.the-variants.{Some, None}
+use Rattle.fields.specs.declared.pieces.Piece.{Piece}
 use Rattle.fields.specs.declared.pieces.Pieces.{Pieces}
 
 -- bytes put before the first piece
@@ -30,3 +34,8 @@ given r = r .count
 abbrev pub ended : List (List ℕ) → Bool
 ended [] = true
 ended (p ∷ ps) = false
+
+-- the next piece is handed out with its place; after the last there is none, and nothing changes
+abbrev pub Handed : Pieces → Option Piece → Pieces → Type 0
+Handed before None after = (left before ≡ []) × (left after ≡ []) × (given after ≡ given before)
+Handed before (Some p) after = (left before ≡ p .bytes .now ∷ left after) × (p .place ≡ given before + 1) × (given after ≡ given before + 1)

@@ -10,9 +10,9 @@ use Rattle.graphs.specs.declared.Pay.{Pay}
 use Rattle.graphs.specs.declared.Tie.{Tie}
 use Rattle.fields.specs.Numbers.{numeral}
 use Rattle.grammar.specs.declared.records.Counts.{Counts}
-use Rattle.grammar.specs.declared.faults.Refusal.{Refusal}
-use Rattle.grammar.specs.declared.faults.TextFault.{TextFault}
-use Rattle.grammar.specs.Refusals.{refusalOf}
+use Rattle.faults.specs.declared.Refusal.{Refusal}
+use Rattle.faults.specs.declared.TextFault.{TextFault}
+use Rattle.faults.specs.Refusals.{refusalOf}
 use Rattle.grammar.specs.Labels.{codeForm, payForm}
 use Rattle.grammar.specs.Reading.{reading, Outcome}
 use Rattle.grammar.specs.Writing.{graphText}

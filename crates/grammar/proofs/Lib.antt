@@ -1,1 +1,16 @@
 pub mod Examples
+pub mod Forms
+pub mod Splits
+pub mod Numerals
+pub mod Steps
+pub mod LabelLaws
+pub mod Sayings
+pub mod LineRead
+pub mod LineWritten
+pub mod Pairs
+pub mod SoFar
+pub mod Read
+pub mod Taken
+pub mod FieldBlame
+pub mod LineBlame
+pub mod Blamed

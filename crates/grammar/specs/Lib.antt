@@ -1,4 +1,3 @@
-pub mod Refusals
 pub mod Labels
 pub mod Reading
 pub mod Writing

@@ -11,16 +11,16 @@ use Rattle.std.specs.declared.result.Result.{Result}
 use Rattle.std.specs.declared.result.Result.the-variants.{Ok, Err}
 use Rattle.fields.specs.Numbers.{numberOf}
 use Rattle.fields.specs.Split.{split}
-use Rattle.grammar.specs.declared.faults.FieldTrouble.{FieldTrouble}
-use Rattle.grammar.specs.declared.faults.FieldTrouble.the-variants.{NoNumber, OutOfRange, LabelCount, MissingVertex}
-use Rattle.grammar.specs.declared.faults.LineFault.{LineFault}
-use Rattle.grammar.specs.declared.faults.LineFault.the-variants.{TextStops, NoLineFeed, Letter, FieldCount, InField, OwnTie, RepeatedPair, NoRoom}
-use Rattle.grammar.specs.declared.faults.TextFault.{TextFault}
-use Rattle.grammar.specs.declared.faults.TextFault.the-variants.{TooLong, InLine}
+use Rattle.faults.specs.declared.FieldTrouble.{FieldTrouble}
+use Rattle.faults.specs.declared.FieldTrouble.the-variants.{NoNumber, OutOfRange, LabelCount, MissingVertex}
+use Rattle.faults.specs.declared.LineFault.{LineFault}
+use Rattle.faults.specs.declared.LineFault.the-variants.{TextStops, NoLineFeed, Letter, FieldCount, InField, OwnTie, RepeatedPair, NoRoom}
+use Rattle.faults.specs.declared.TextFault.{TextFault}
+use Rattle.faults.specs.declared.TextFault.the-variants.{TooLong, InLine}
 use Rattle.grammar.specs.declared.records.Counts.{Counts}
 use Rattle.grammar.specs.Labels.{Form}
 use Rattle.grammar.specs.Reading.{State, recordOf, isEmpty, mostBytes}
-use Rattle.grammar.specs.Refusals.{refusalOf, fieldOf}
+use Rattle.faults.specs.Refusals.{refusalOf, fieldOf}
 
 -- piece k of a text, counted from 1; empty where there is none
 abbrev pub pieceAt : ℕ → ℕ → List ℕ → List ℕ

@@ -12,13 +12,13 @@ use Rattle.std.specs.declared.result.Result.the-variants.{Ok, Err}
 use Rattle.graphs.specs.declared.Tie.{Tie}
 use Rattle.fields.specs.Numbers.{numberOf}
 use Rattle.fields.specs.Split.{split, ended}
-use Rattle.grammar.specs.declared.faults.FieldTrouble.{FieldTrouble}
-use Rattle.grammar.specs.declared.faults.FieldTrouble.the-variants.{NoNumber, OutOfRange, LabelCount, MissingVertex}
-use Rattle.grammar.specs.declared.faults.FieldFault.{FieldFault}
-use Rattle.grammar.specs.declared.faults.LineFault.{LineFault}
-use Rattle.grammar.specs.declared.faults.LineFault.the-variants.{TextStops, NoLineFeed, Letter, FieldCount, InField, OwnTie, RepeatedPair, NoRoom}
-use Rattle.grammar.specs.declared.faults.TextFault.{TextFault}
-use Rattle.grammar.specs.declared.faults.TextFault.the-variants.{TooLong, InLine}
+use Rattle.faults.specs.declared.FieldTrouble.{FieldTrouble}
+use Rattle.faults.specs.declared.FieldTrouble.the-variants.{NoNumber, OutOfRange, LabelCount, MissingVertex}
+use Rattle.faults.specs.declared.FieldFault.{FieldFault}
+use Rattle.faults.specs.declared.LineFault.{LineFault}
+use Rattle.faults.specs.declared.LineFault.the-variants.{TextStops, NoLineFeed, Letter, FieldCount, InField, OwnTie, RepeatedPair, NoRoom}
+use Rattle.faults.specs.declared.TextFault.{TextFault}
+use Rattle.faults.specs.declared.TextFault.the-variants.{TooLong, InLine}
 use Rattle.grammar.specs.declared.records.Counts.{Counts}
 use Rattle.grammar.specs.declared.records.Range.{Range}
 use Rattle.grammar.specs.declared.records.Record.{Record}

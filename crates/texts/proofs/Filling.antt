@@ -13,15 +13,16 @@ use Rattle.graphs.specs.declared.Tie.{Tie}
 use Rattle.fields.specs.Lines.{overlaid}
 use Rattle.fields.specs.Split.{ended}
 use Rattle.fields.proofs.Overlaid.{overlaid-push}
-use Rattle.grammar.specs.declared.faults.LineFault.{LineFault}
-use Rattle.grammar.specs.declared.faults.TextFault.the-variants.{InLine}
+use Rattle.faults.specs.declared.LineFault.{LineFault}
+use Rattle.faults.specs.declared.TextFault.the-variants.{InLine}
 use Rattle.grammar.specs.declared.records.Counts.{Counts}
 use Rattle.grammar.specs.declared.records.Record.{Record}
 use Rattle.grammar.specs.declared.records.Record.the-variants.{Graph, Vertex, Tied, End}
 use Rattle.grammar.specs.Labels.{Form}
 use Rattle.grammar.specs.Reading.{State, Outcome, readOn, reading, recordOf, added}
 use Rattle.texts.specs.declared.reader.Progress.{Progress}
-use Rattle.texts.specs.Storing.{roomIn, stageAfter, countsAfter, verticesAfter, tiesAfter, HasRoom, placedAt}
+use Rattle.texts.specs.Graphs.{roomIn}
+use Rattle.texts.specs.Storing.{stageAfter, countsAfter, verticesAfter, tiesAfter, HasRoom, placedAt}
 use Rattle.texts.proofs.Room.{has-room}
 
 -- what is stored so far

@@ -10,9 +10,9 @@ use Rattle.std.specs.declared.result.Result.{Result}
 use Rattle.std.specs.declared.result.Result.the-variants.{Ok, Err}
 use Rattle.graphs.specs.declared.Tie.{Tie}
 use Rattle.fields.specs.Split.{split}
-use Rattle.grammar.specs.declared.faults.FieldTrouble.the-variants.{LabelCount}
-use Rattle.grammar.specs.declared.faults.LineFault.{LineFault}
-use Rattle.grammar.specs.declared.faults.LineFault.the-variants.{InField, FieldCount, Letter, NoRoom, OwnTie, RepeatedPair}
+use Rattle.faults.specs.declared.FieldTrouble.the-variants.{LabelCount}
+use Rattle.faults.specs.declared.LineFault.{LineFault}
+use Rattle.faults.specs.declared.LineFault.the-variants.{InField, FieldCount, Letter, NoRoom, OwnTie, RepeatedPair}
 use Rattle.grammar.specs.declared.records.Counts.{Counts}
 use Rattle.grammar.specs.declared.records.Record.{Record}
 use Rattle.grammar.specs.declared.records.Record.the-variants.{Graph, Vertex, Tied, End}

@@ -6,17 +6,13 @@ use lib.ListN.{length, set}
 use Rattle.std.specs.declared.result.Result.{Result}
 use Rattle.std.specs.declared.result.Result.the-variants.{Ok, Err}
 use Rattle.graphs.specs.declared.Tie.{Tie}
-use Rattle.grammar.specs.declared.faults.LineFault.{LineFault}
-use Rattle.grammar.specs.declared.faults.FaultyLine.{FaultyLine}
+use Rattle.faults.specs.declared.LineFault.{LineFault}
+use Rattle.faults.specs.declared.FaultyLine.{FaultyLine}
 use Rattle.grammar.specs.declared.records.Counts.{Counts}
 use Rattle.grammar.specs.declared.records.Record.{Record}
 use Rattle.grammar.specs.declared.records.Record.the-variants.{Graph, Vertex, Tied, End}
 use Rattle.grammar.specs.declared.records.Stage.{Stage}
 use Rattle.grammar.specs.declared.records.Stage.the-variants.{Opening, Vertices, Ties, Closed}
-
--- how many vertices and ties two lists hold
-abbrev pub roomIn : {L : Type 0} → List L → List (Tie L) → Counts
-roomIn vertices ties = record { vertices = length vertices; ties = length ties }
 
 -- a line's fault with the text's number and its own
 abbrev pub placedAt : {X : Type 0} → ℕ → ℕ → Result X LineFault → Result X FaultyLine

@@ -4,8 +4,8 @@ ghost use mathlib.Core.Path.{_≡_};
 ghost use mathlib.Core.List.{[]};
 ghost use Rattle.std.specs.Options.{Cases as BySome};
 ghost use Rattle.grammar.specs.Pointing.{pieceAt, fieldAt, lineAt, textOf, pointed};
+use faults::TextFault;
 use fields::Pieces;
-use grammar::TextFault;
 
 // The piece of a text at a place, 1 for the first; none where the text has no such piece.
 fn find_piece<'a>(text: &'a [u8], separator: u8, place: usize) -> Option<&'a [u8]>

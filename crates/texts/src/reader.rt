@@ -3,19 +3,19 @@
 ghost use mathlib.Core.Path.{_≡_};
 ghost use Prim.Native.Nat.{ℕ, _<_, _≤_, _+_};
 ghost use lib.ListN.{length, set, take};
-ghost use Rattle.fields.specs.Lines.{overlaid};
-ghost use Rattle.grammar.specs.Reading.{closing, reading, recordOf};
-ghost use Rattle.texts.specs.Storing.{placedAt, HasRoom, stageAfter, countsAfter, verticesAfter, tiesAfter, roomIn};
+ghost use Rattle.grammar.specs.Reading.{closing, recordOf};
+ghost use Rattle.texts.specs.Graphs.{Read};
+ghost use Rattle.texts.specs.Storing.{placedAt, HasRoom, stageAfter, countsAfter, verticesAfter, tiesAfter};
 use super::labels::Label;
 use super::lines::read_line;
+use faults::FaultyLine;
+use faults::LineFault;
+use faults::TextFault;
+use faults::TextFaultFromLine;
 use fields::Pieces;
 use grammar::Counts;
-use grammar::FaultyLine;
-use grammar::LineFault;
 use grammar::Record;
 use grammar::Stage;
-use grammar::TextFault;
-use grammar::TextFaultFromLine;
 use graphs::Tie;
 use graphs::TieClone;
 
@@ -119,9 +119,7 @@ pub fn read_graph<L: Label>(
     vertices: &mut [L],
     ties: &mut [Tie<L>],
 ) -> Result<Counts, TextFault>
-    ensures answer { λ r. ⌜ r ≡ reading (L·Label .form) (roomIn (now (vertices .entry)) (now (ties .entry))) number (now (text .entry)) .answer ⌝ }
-    ensures vertices { λ _. ⌜ now (vertices .exit) ≡ overlaid (reading (L·Label .form) (roomIn (now (vertices .entry)) (now (ties .entry))) number (now (text .entry)) .state .labels) (now (vertices .entry)) ⌝ }
-    ensures ties { λ _. ⌜ now (ties .exit) ≡ overlaid (reading (L·Label .form) (roomIn (now (vertices .entry)) (now (ties .entry))) number (now (text .entry)) .state .ties) (now (ties .entry)) ⌝ }
+    ensures { λ r. ⌜ Read (L·Label .form) number (now (text .entry)) (now (vertices .entry)) (now (ties .entry)) r (now (vertices .exit)) (now (ties .exit)) ⌝ }
 {
     if text.len() > MOST_BYTES {
         return Err(TextFault::TooLong(number));

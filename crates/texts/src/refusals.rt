@@ -3,9 +3,9 @@
 ghost use mathlib.Core.Path.{_≡_};
 ghost use Rattle.fields.specs.Lines.{lengthIn, overlaidIn};
 ghost use Rattle.texts.specs.RefusalLines.{refusalText};
+use faults::Refusal;
 use fields::TooShort;
 use fields::write_line;
-use grammar::Refusal;
 
 // Writes `r`, number, text, line and field, tab-separated and ended by a line feed, at the start of a buffer, and returns how many bytes that are.
 // Where the buffer is too short it says so, refusal 15, and leaves the buffer.

@@ -1,11 +1,10 @@
 // The cutting of a text, one piece after another.
 
 ghost use mathlib.Core.Path.{_≡_};
-ghost use mathlib.Core.List.{[], _∷_};
+ghost use mathlib.Core.List.{_∷_};
 ghost use Prim.Native.Nat.{_+_, _-_, _≤_};
 ghost use lib.ListN.{length, take, drop};
-ghost use Rattle.std.specs.Options.{Cases as BySome};
-ghost use Rattle.fields.specs.Split.{split, splitFrom, left, given, ended};
+ghost use Rattle.fields.specs.Split.{split, splitFrom, left, given, ended, Handed};
 use super::Piece;
 use super::Pieces;
 
@@ -39,11 +38,11 @@ impl<'a> Pieces<'a> {
 
     // The next piece, or none after the last.
     pub fn next(&mut self) -> Option<Piece<'a>>
-        ensures { λ r. ⌜ BySome r ((left (now (self .entry)) ≡ []) × (left (now (self .exit)) ≡ []) × (given (now (self .exit)) ≡ given (now (self .entry)))) (λ p. (left (now (self .entry)) ≡ now (p .bytes) ∷ left (now (self .exit))) × (p .place ≡ given (now (self .entry)) + 1) × (given (now (self .exit)) ≡ given (now (self .entry)) + 1)) ⌝ }
+        ensures { λ r. ⌜ Handed (now (self .entry)) r (now (self .exit)) ⌝ }
     {
         let text = self.text;
         let start = self.start;
-        let place = self.count + 1;
+        let place = self.place();
         if start > text.len() {
             return None;
         }

@@ -6,7 +6,6 @@ use lib.ListN.{take}
 use Rattle.std.specs.declared.result.Result.the-variants.{Ok}
 use Rattle.fields.specs.Split.{left, given, ended}
 use Rattle.grammar.specs.Reading.{recordOf}
-use Rattle.texts.specs.Storing.{roomIn}
 use Rattle.texts.proofs.Filling.{Filling, placed-ok, room-for, turned}
 use Rattle.texts.proofs.reader.read_graph.Needs as need
 

@@ -1,9 +1,9 @@
 // What can be wrong with a field, a line and a text. A definition gives each case its number.
 
 ghost use mathlib.Core.Path.{_≡_};
-ghost use Rattle.grammar.specs.Refusals.{troubleNumber, lineFaultNumber, fieldOf, refusalOf};
-ghost use Rattle.grammar.specs.declared.faults.LineFault.the-variants.{InField};
-ghost use Rattle.grammar.specs.declared.faults.TextFault.the-variants.{InLine};
+ghost use Rattle.faults.specs.Refusals.{troubleNumber, lineFaultNumber, fieldOf, refusalOf};
+ghost use Rattle.faults.specs.declared.LineFault.the-variants.{InField};
+ghost use Rattle.faults.specs.declared.TextFault.the-variants.{InLine};
 
 // What is wrong with a field.
 #[derive(Clone, Copy, PartialEq, Eq, Debug)]

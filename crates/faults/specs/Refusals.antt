@@ -1,14 +1,14 @@
 -- The number of each fault, and where it lies.
 use Prim.Native.Nat.{ℕ}
-use Rattle.grammar.specs.declared.faults.FieldTrouble.{FieldTrouble}
-use Rattle.grammar.specs.declared.faults.FieldTrouble.the-variants.{NoNumber, OutOfRange, LabelCount, MissingVertex}
-use Rattle.grammar.specs.declared.faults.FieldFault.{FieldFault}
-use Rattle.grammar.specs.declared.faults.LineFault.{LineFault}
-use Rattle.grammar.specs.declared.faults.LineFault.the-variants.{TextStops, NoLineFeed, Letter, FieldCount, InField, OwnTie, RepeatedPair, NoRoom}
-use Rattle.grammar.specs.declared.faults.FaultyLine.{FaultyLine}
-use Rattle.grammar.specs.declared.faults.TextFault.{TextFault}
-use Rattle.grammar.specs.declared.faults.TextFault.the-variants.{TooLong, InLine}
-use Rattle.grammar.specs.declared.faults.Refusal.{Refusal}
+use Rattle.faults.specs.declared.FieldTrouble.{FieldTrouble}
+use Rattle.faults.specs.declared.FieldTrouble.the-variants.{NoNumber, OutOfRange, LabelCount, MissingVertex}
+use Rattle.faults.specs.declared.FieldFault.{FieldFault}
+use Rattle.faults.specs.declared.LineFault.{LineFault}
+use Rattle.faults.specs.declared.LineFault.the-variants.{TextStops, NoLineFeed, Letter, FieldCount, InField, OwnTie, RepeatedPair, NoRoom}
+use Rattle.faults.specs.declared.FaultyLine.{FaultyLine}
+use Rattle.faults.specs.declared.TextFault.{TextFault}
+use Rattle.faults.specs.declared.TextFault.the-variants.{TooLong, InLine}
+use Rattle.faults.specs.declared.Refusal.{Refusal}
 
 abbrev pub troubleNumber : FieldTrouble → ℕ
 troubleNumber NoNumber = 5
