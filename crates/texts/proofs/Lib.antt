@@ -1,3 +1,4 @@
 pub mod Room
 pub mod Filling
 pub mod Places
+pub mod Exactly

@@ -4,7 +4,7 @@ ghost use mathlib.Core.Path.{_≡_};
 ghost use Prim.Native.Nat.{ℕ, _<_, _≤_, _+_};
 ghost use lib.ListN.{length, set, take};
 ghost use Rattle.grammar.specs.Reading.{closing, recordOf};
-ghost use Rattle.texts.specs.Graphs.{Read};
+ghost use Rattle.texts.specs.Graphs.{Read, Exact, Blames};
 ghost use Rattle.texts.specs.Storing.{placedAt, HasRoom, stageAfter, countsAfter, verticesAfter, tiesAfter};
 use super::labels::Label;
 use super::lines::read_line;
@@ -111,9 +111,8 @@ fn store<L: Label>(
     Progress { stage, counts }
 }
 
-// Reads the graph text of a number, 1 or 2, into a list of vertex labels and a list of ties, and returns how many of each it states.
-// It refuses a text with the first fault in it. The entries of the lines before that, or of all lines, are filled; every other entry is as it was.
-pub fn read_graph<L: Label>(
+// Reads a text's lines one after another into the lists, up to the first fault.
+fn read_lines<L: Label>(
     text: &[u8],
     number: usize,
     vertices: &mut [L],
@@ -149,4 +148,19 @@ pub fn read_graph<L: Label>(
         line: lines.place(),
         fault: LineFault::TextStops,
     }))
+}
+
+// Reads the graph text of a number, 1 or 2, into a list of vertex labels and a list of ties, and returns how many of each it states.
+// It refuses a text with the first fault in it. The entries of the lines before that, or of all lines, are filled; every other entry is as it was.
+pub fn read_graph<L: Label>(
+    text: &[u8],
+    number: usize,
+    vertices: &mut [L],
+    ties: &mut [Tie<L>],
+) -> Result<Counts, TextFault>
+    ensures reads { λ r. ⌜ Read (L·Label .form) number (now (text .entry)) (now (vertices .entry)) (now (ties .entry)) r (now (vertices .exit)) (now (ties .exit)) ⌝ }
+    ensures exact { λ r. ⌜ Exact (L·Label .form) (now (text .entry)) (now (vertices .entry)) (now (ties .entry)) r (now (vertices .exit)) (now (ties .exit)) ⌝ }
+    ensures blames { λ r. ⌜ Blames (L·Label .form) number (now (text .entry)) (now (vertices .entry)) (now (ties .entry)) r ⌝ }
+{
+    read_lines(text, number, vertices, ties)
 }

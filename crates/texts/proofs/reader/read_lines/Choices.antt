@@ -2,7 +2,7 @@ use Rattle.fields.specs.Split.{left, given}
 use Prim.Native.Nat.{_+_}
 use lib.ListN.{length}
 use Rattle.texts.proofs.Filling.{Filling}
-use Rattle.texts.proofs.reader.read_graph.Given as given-here
+use Rattle.texts.proofs.reader.read_lines.Given as given-here
 
 abbrev pub Inv-loop-line : given-here.InvT-loop-line
 Inv-loop-line g l =
