@@ -1,0 +1,4 @@
+pub mod Judging
+pub mod Showing
+pub mod Tallying
+pub mod Wording
