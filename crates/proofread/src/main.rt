@@ -25,7 +25,10 @@ fn proofread(rt: &LibcRuntime, name: &str) -> Result<(), AnyError> {
     let text = match load(rt, name) {
         Ok(bytes) => bytes,
         Err(error) => {
-            eprintln!(rt, "proofread: {name} cannot be read ({error}), so it is judged as an empty text")?;
+            eprintln!(
+                rt,
+                "proofread: {name} cannot be read ({error}), so it is judged as an empty text"
+            )?;
             Vec::new(rt.alloc())
         }
     };

@@ -1,2 +1,3 @@
 pub mod Tallies
 pub mod Rows
+pub mod Judgings

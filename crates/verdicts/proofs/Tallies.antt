@@ -33,15 +33,15 @@ module _ (cs : List ℕ) (vs : List Pay) (i : ℕ) (p : Pay) (here : i < length 
   pub counted : p .kind < length cs → (k : ℕ) → k < length (set cs (p .kind) (getD cs (p .kind) 0 + 1)) → getD (set cs (p .kind) (getD cs (p .kind) 0 + 1)) k 0 ≡ kindCount k (take (i + 1) vs)
   counted h k l = ⊎-elim
       (λ e.
-        ap (λ j. getD (set cs (p .kind) (getD cs (p .kind) 0 + 1)) j 0) (sym e)
-        ∙ getD-set-same cs (p .kind) (getD cs (p .kind) 0 + 1) 0 h
-        ∙ ap (λ n. n + 1) (inv (p .kind) h)
-        ∙ sym (same-kind (p .kind) refl)
-        ∙ ap (λ j. kindCount j (take (i + 1) vs)) e)
+      ap (λ j. getD (set cs (p .kind) (getD cs (p .kind) 0 + 1)) j 0) (sym e)
+      ∙ getD-set-same cs (p .kind) (getD cs (p .kind) 0 + 1) 0 h
+      ∙ ap (λ n. n + 1) (inv (p .kind) h)
+      ∙ sym (same-kind (p .kind) refl)
+      ∙ ap (λ j. kindCount j (take (i + 1) vs)) e)
       (λ n.
-        getD-set-other cs (p .kind) k (getD cs (p .kind) 0 + 1) 0 (λ e. n (sym e))
-        ∙ inv k (omega (arith, length-set cs (p .kind) (getD cs (p .kind) 0 + 1)))
-        ∙ sym (other-kind k n))
+      getD-set-other cs (p .kind) k (getD cs (p .kind) 0 + 1) 0 (λ e. n (sym e))
+      ∙ inv k (omega (arith, length-set cs (p .kind) (getD cs (p .kind) 0 + 1)))
+      ∙ sym (other-kind k n))
       (cases-eq (p .kind) k)
 
   pub passed : length cs ≤ p .kind → (k : ℕ) → k < length cs → getD cs k 0 ≡ kindCount k (take (i + 1) vs)

@@ -16,6 +16,9 @@ use Rattle.faults.specs.declared.TextFault.the-variants.{TooLong, InLine}
 use Rattle.faults.specs.Refusals.{refusalOf}
 use Rattle.grammar.specs.declared.records.Counts.{Counts}
 use Rattle.grammar.specs.Pointing.{pointed}
+use Rattle.std.specs.declared.result.Result.{Result}
+use Rattle.std.specs.declared.result.Result.the-variants.{Ok, Err}
+use Rattle.verdicts.specs.Judging.{judging}
 use Rattle.verdicts.specs.Showing.{shownBytes}
 use Rattle.verdicts.specs.Tallying.{kindCount}
 
@@ -73,3 +76,11 @@ kindRows name count (suc k) = kindRows name count k ++ kindText name k (count k)
 -- kinds are below 10,000
 abbrev pub takenText : List ℕ → Counts → List Pay → List ℕ
 takenText name c vs = countsText name c ++ kindRows name (λ k. kindCount k vs) 10000
+
+-- what is printed for a sheet of a name, by what judging it gives
+abbrev pub answerText : List ℕ → List ℕ → List Pay → Result Counts TextFault → List ℕ
+answerText name text labels (Ok counts) = takenText name counts labels
+answerText name text labels (Err fault) = refusedText name (sentenceOf text fault) (refusalOf fault)
+
+abbrev pub verdictText : Counts → List ℕ → List ℕ → List ℕ
+verdictText room name text = answerText name text (judging room text .state .labels) (judging room text .answer)

@@ -3,11 +3,17 @@
 ghost use mathlib.Core.Path.{_≡_};
 ghost use Rattle.std.specs.Of.String.{string-bytes};
 ghost use Rattle.std.specs.Vec.{made};
-ghost use Rattle.verdicts.specs.Wording.{fieldComplaint, complaintOf, sentenceOf, refusalRow, refusedText, countsText, kindText, kindRows, takenText};
+ghost use Rattle.verdicts.specs.Wording.{fieldComplaint, complaintOf, sentenceOf, refusalRow, refusedText, countsText, kindText, kindRows, takenText, verdictText};
+ghost use Rattle.verdicts.specs.Judging.{sheetRoom};
+ghost use Rattle.verdicts.specs.Showing.{shownBytes};
+ghost use Rattle.texts.specs.Graphs.{roomIn};
 ghost use mathlib.Core.List.{_++_};
 ghost use lib.ListN.{length, getD};
 ghost use Rattle.faults.specs.Refusals.{refusalOf};
-
+use super::judging::MOST_ROWS;
+use super::judging::judge;
+use super::showing::shown;
+use super::tallying::tally;
 use faults::FieldTrouble;
 use faults::LineFault;
 use faults::Refusal;
@@ -19,10 +25,6 @@ use graphs::TieClone;
 use std::alloc::AllocError;
 use std::alloc::Global;
 use texts::point;
-use super::judging::MOST_ROWS;
-use super::judging::judge;
-use super::showing::shown;
-use super::tallying::tally;
 
 // One more than the greatest kind.
 const KINDS: usize = 10_000;
@@ -103,7 +105,10 @@ fn counts_text(heap: Global, name: &str, counts: Counts) -> Result<String, Alloc
 {
     let vertices = counts.vertices;
     let ties = counts.ties;
-    format!(heap, "{name}: good, with {vertices} vertices and {ties} ties\n{name}\tg\t{vertices}\t{ties}\n")
+    format!(
+        heap,
+        "{name}: good, with {vertices} vertices and {ties} ties\n{name}\tg\t{vertices}\t{ties}\n"
+    )
 }
 
 // Adds a row for a kind of which there are some.
@@ -124,7 +129,12 @@ fn push_kind(
 }
 
 // Adds the rows of all kinds, by the list of how many there are of each.
-fn push_kinds(heap: Global, out: &mut String, name: &str, counts: &[usize]) -> Result<(), AllocError>
+fn push_kinds(
+    heap: Global,
+    out: &mut String,
+    name: &str,
+    counts: &[usize],
+) -> Result<(), AllocError>
     ensures { λ r. ⌜ made r (λ _. string-bytes (now (out .exit)) ≡ string-bytes (now (out .entry)) ++ kindRows (now (name .entry)) (λ k. getD (now (counts .entry)) k 0) (length (now (counts .entry)))) ⌝ }
 {
     for kind in 0..counts.len() {
@@ -144,17 +154,43 @@ fn taken(heap: Global, name: &str, counts: Counts, vertices: &[Pay]) -> Result<S
     Ok(out)
 }
 
-// The verdict on a sheet of a name.
-pub fn verdict(heap: Global, name: &str, text: &[u8]) -> Result<String, AllocError> {
-    let blank = Pay { kind: 0, pence: 0 };
-    let mut vertices = vec![in heap; blank; MOST_ROWS]?;
-    let mut ties = vec![in heap; Tie { from: 0, to: 0, label: blank }; MOST_ROWS]?;
-    let name = shown(heap, name.as_bytes())?;
-    match judge(text, vertices.as_mut_slice(), ties.as_mut_slice()) {
+// The verdict on a sheet of a name, which is shown already, by means of two lists.
+fn verdict_in(
+    heap: Global,
+    name: &str,
+    text: &[u8],
+    vertices: &mut [Pay],
+    ties: &mut [Tie<Pay>],
+) -> Result<String, AllocError>
+    ensures { λ r. ⌜ made r (λ s. string-bytes s ≡ verdictText (roomIn (now (vertices .entry)) (now (ties .entry))) (now (name .entry)) (now (text .entry))) ⌝ }
+{
+    match judge(text, vertices, ties) {
         Ok(counts) => {
-            let front = vertices.as_slice().get(0..counts.vertices).unwrap_or(&[]);
-            taken(heap, name.as_str(), counts, front)
+            let stated = counts.vertices;
+            taken(heap, name, counts, &vertices[0..stated])
         }
-        Err(fault) => refused(heap, name.as_str(), text, fault),
+        Err(fault) => refused(heap, name, text, fault),
     }
+}
+
+// The verdict on a sheet of a name, as the lines to print: how much of what a good sheet has, or what is wrong with a bad one.
+pub fn verdict(heap: Global, name: &str, text: &[u8]) -> Result<String, AllocError>
+    ensures { λ r. ⌜ made r (λ s. string-bytes s ≡ verdictText sheetRoom (shownBytes (now (name .entry))) (now (text .entry))) ⌝ }
+{
+    let blank = Pay { kind: 0, pence: 0 };
+    let tie = Tie {
+        from: 0,
+        to: 0,
+        label: blank,
+    };
+    let mut vertices = vec![in heap; blank; MOST_ROWS]?;
+    let mut ties = vec![in heap; tie; MOST_ROWS]?;
+    let name = shown(heap, name.as_bytes())?;
+    verdict_in(
+        heap,
+        name.as_str(),
+        text,
+        vertices.as_mut_slice(),
+        ties.as_mut_slice(),
+    )
 }

@@ -12,8 +12,8 @@ use Rattle.verdicts.proofs.showing.push_shown.Needs as need
 hex-ascii : (n d : ℕ) → d ≡ hexDigit n → d < 128
 hex-ascii n d e =
     let small : hexDigit n < 128
-      = cond-both (ltb n 10) (48 + n) (cond (ltb n 16) (97 + (n - 10)) 63) (λ x. x < 128) (λ t. omega (arith, ltb-true _ _ t))
-        (λ _. cond-both (ltb n 16) (97 + (n - 10)) 63 (λ x. x < 128) (λ t. omega (arith, ltb-true _ _ t)) (λ _. omega arith)) in
+    = cond-both (ltb n 10) (48 + n) (cond (ltb n 16) (97 + (n - 10)) 63) (λ x. x < 128) (λ t. omega (arith, ltb-true _ _ t))
+    (λ _. cond-both (ltb n 16) (97 + (n - 10)) 63 (λ x. x < 128) (λ t. omega (arith, ltb-true _ _ t)) (λ _. omega arith)) in
     omega (arith, small, e)
 
 regroup : (t : List ℕ) (a b : ℕ) → ((t ++ 92 ∷ 120 ∷ []) ++ a ∷ []) ++ b ∷ [] ≡ t ++ 92 ∷ 120 ∷ a ∷ b ∷ []

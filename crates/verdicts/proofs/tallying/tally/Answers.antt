@@ -26,8 +26,11 @@ loop-count-again c =
 
 pub add-counts : need.add-counts
 add-counts c =
-    omega (arith, small (c .loop-vertex .counts) (c .args .vertices .now) (c .loop-vertex .vertex-index) (item (c .args .vertices .now) (c .loop-vertex .vertex-index)) (omega arith)
-    (read (c .args .vertices .now) (c .loop-vertex .vertex-index) (omega arith)) (c .loop-vertex .inv) (item (c .args .vertices .now) (c .loop-vertex .vertex-index) .kind) (c .if-kind-counts .taken))
+    omega (
+      arith,
+      small (c .loop-vertex .counts) (c .args .vertices .now) (c .loop-vertex .vertex-index) (item (c .args .vertices .now) (c .loop-vertex .vertex-index)) (omega arith)
+          (read (c .args .vertices .now) (c .loop-vertex .vertex-index) (omega arith)) (c .loop-vertex .inv) (item (c .args .vertices .now) (c .loop-vertex .vertex-index) .kind) (c .if-kind-counts .taken),
+    )
 
 turn : (cs ds : List ℕ) (vs : List Pay) (i : ℕ) → i < length vs → ((k : ℕ) → k < length cs → getD cs k 0 ≡ kindCount k (take i vs))
     → ds ≡ cs → length cs ≤ item vs i .kind → (k : ℕ) → k < length ds → getD ds k 0 ≡ kindCount k (take (i + 1) vs)
@@ -42,8 +45,8 @@ count cs ds vs i h inv e l = let P : List ℕ → Type 0 = λ xs. (k : ℕ) → 
 pub loop-vertex-again : need.loop-vertex-again
 loop-vertex-again c =
     elim (c .if-kind-counts .came) [
-      then-kind-counts w ↦ count (c .loop-vertex .counts) (c .if-kind-counts .counts) (c .args .vertices .now) (c .loop-vertex .vertex-index) (omega arith) (c .loop-vertex .inv) (w .counts-is) (w .if-kind-counts .taken)
-    | else-kind-counts w ↦ turn (c .loop-vertex .counts) (c .if-kind-counts .counts) (c .args .vertices .now) (c .loop-vertex .vertex-index) (omega arith) (c .loop-vertex .inv) (w .counts-is) (w .if-kind-counts .left)
+      | then-kind-counts w ↦ count (c .loop-vertex .counts) (c .if-kind-counts .counts) (c .args .vertices .now) (c .loop-vertex .vertex-index) (omega arith) (c .loop-vertex .inv) (w .counts-is) (w .if-kind-counts .taken)
+      | else-kind-counts w ↦ turn (c .loop-vertex .counts) (c .if-kind-counts .counts) (c .args .vertices .now) (c .loop-vertex .vertex-index) (omega arith) (c .loop-vertex .inv) (w .counts-is) (w .if-kind-counts .left)
     ]
 
 pub returns : need.returns
