@@ -12,9 +12,13 @@ isPlain b = leb 32 b && (leb b 126 && (not (eqb b 34) && not (eqb b 92)))
 abbrev pub hexDigit : ℕ → ℕ
 hexDigit n = cond (ltb n 10) (48 + n) (cond (ltb n 16) (97 + (n - 10)) 63)
 
--- a plain byte stands as it is; any other as `\x` and two hexadecimal digits
+-- any other byte as `\x` and two hexadecimal digits
+abbrev pub escapedByte : ℕ → List ℕ
+escapedByte b = 92 ∷ 120 ∷ hexDigit (b / 16) ∷ hexDigit (b % 16) ∷ []
+
+-- a plain byte stands as it is, and a tab as `\t`
 abbrev pub shownByte : ℕ → List ℕ
-shownByte b = cond (isPlain b) (b ∷ []) (92 ∷ 120 ∷ hexDigit (b / 16) ∷ hexDigit (b % 16) ∷ [])
+shownByte b = cond (isPlain b) (b ∷ []) (cond (eqb b 9) (92 ∷ 116 ∷ []) (escapedByte b))
 
 abbrev pub shownBytes : List ℕ → List ℕ
 shownBytes bs = joined shownByte bs

@@ -27,7 +27,7 @@ abbrev pub fieldComplaint : FieldTrouble → List ℕ
 fieldComplaint NoNumber = codes "is no number"
 fieldComplaint OutOfRange = codes "is out of range"
 fieldComplaint LabelCount = codes "is another count of label fields than a sheet has, which is 2"
-fieldComplaint MissingVertex = codes "names a vertex that the sheet has not"
+fieldComplaint MissingVertex = codes "names a vertex that the sheet does not have"
 
 abbrev pub complaintOf : LineFault → List ℕ
 complaintOf TextStops = codes "is where the sheet stops, before its e line"

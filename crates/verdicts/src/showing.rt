@@ -3,7 +3,7 @@
 ghost use mathlib.Core.Path.{_≡_};
 ghost use Rattle.std.specs.Of.String.{string-bytes};
 ghost use Rattle.std.specs.Vec.{made};
-ghost use Rattle.verdicts.specs.Showing.{isPlain, hexDigit, shownBytes, shownByte};
+ghost use Rattle.verdicts.specs.Showing.{isPlain, hexDigit, escapedByte, shownBytes, shownByte};
 ghost use mathlib.Core.List.{_++_};
 use std::alloc::AllocError;
 use std::alloc::Global;
@@ -28,18 +28,28 @@ fn hex_digit(number: u8) -> char
     }
 }
 
-// Adds a byte to a text: as it stands, or as `\x` and its two hexadecimal digits.
+// Adds `\x` and the two hexadecimal digits of a byte to a text.
+fn push_escaped(text: &mut String, byte: u8) -> Result<(), AllocError>
+    ensures { λ r. ⌜ made r (λ _. string-bytes (now (text .exit)) ≡ string-bytes (now (text .entry)) ++ escapedByte byte) ⌝ }
+{
+    text.push_str("\\x")?;
+    text.push(hex_digit(byte / 16))?;
+    text.push(hex_digit(byte % 16))?;
+    Ok(())
+}
+
+// Adds a byte to a text: as it stands, a tab as `\t`, and any other as `\x` and its two hexadecimal digits.
 fn push_shown(text: &mut String, byte: u8) -> Result<(), AllocError>
     ensures { λ r. ⌜ made r (λ _. string-bytes (now (text .exit)) ≡ string-bytes (now (text .entry)) ++ shownByte byte) ⌝ }
 {
     if is_plain(byte) {
         text.push(byte as char)?;
-    } else {
-        text.push_str("\\x")?;
-        text.push(hex_digit(byte / 16))?;
-        text.push(hex_digit(byte % 16))?;
+        return Ok(());
     }
-    Ok(())
+    if byte == b'\t' {
+        return text.push_str("\\t");
+    }
+    push_escaped(text, byte)
 }
 
 // Bytes as a text of printable characters.

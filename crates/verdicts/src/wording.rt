@@ -52,7 +52,7 @@ fn field_complaint(trouble: FieldTrouble) -> &'static str
         FieldTrouble::NoNumber => "is no number",
         FieldTrouble::OutOfRange => "is out of range",
         FieldTrouble::LabelCount => "is another count of label fields than a sheet has, which is 2",
-        FieldTrouble::MissingVertex => "names a vertex that the sheet has not",
+        FieldTrouble::MissingVertex => "names a vertex that the sheet does not have",
     }
 }
 
