@@ -8,4 +8,6 @@ pub use numbers::parse_number;
 pub use pieces::Piece;
 pub use pieces::Pieces;
 pub use writing::TooShort;
+pub use writing::TooShortDebug;
+pub use writing::TooShortPartialEq;
 pub use writing::write_line;

@@ -3,6 +3,8 @@
 mod records;
 
 pub use records::Counts;
+pub use records::CountsDebug;
+pub use records::CountsPartialEq;
 pub use records::Range;
 pub use records::Record;
 pub use records::Stage;
