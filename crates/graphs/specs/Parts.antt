@@ -1,0 +1,34 @@
+-- The part of a graph that some picked vertices make.
+use mathlib.Core.Bool.{cond}
+use mathlib.Core.List.{List, map}
+use Prim.Native.Nat.{ℕ, _<_}
+use lib.Dec.{ltb}
+use lib.ListN.{length, getD}
+use Rattle.std.specs.shelf.Lists.{kept-by}
+use Rattle.std.specs.declared.option.Option.{Option}
+use Rattle.std.specs.declared.option.Option.the-variants.{None}
+use Rattle.graphs.specs.Graphs.{Graph}
+
+-- strictly ascending
+abbrev pub Rising : List ℕ → Type 0
+Rising ps = (i j : ℕ) → i < j → j < length ps → getD ps i 0 < getD ps j 0
+
+-- the numbers of the list that are below n
+abbrev pub below : ℕ → List ℕ → List ℕ
+below n = kept-by (λ v. ltb v n)
+
+-- what an answer is at pick i, none where there is no such pick
+abbrev pub picked : {A : Type 0} → List ℕ → ℕ → (ℕ → Option A) → Option A
+picked ps i answer = cond (ltb i (length ps)) (answer (getD ps i 0)) None
+
+-- as many vertices as there are picks that the graph has. Vertex i is pick i, with its label and its ties.
+abbrev pub partGraph : {L : Type 0} → Graph L → List ℕ → Graph L
+partGraph g ps = record {
+  size = length (below (g .size) ps);
+  label = λ i. picked ps i (g .label);
+  tie = λ i j. picked ps i (λ u. picked ps j (λ v. g .tie u v));
+}
+
+-- picks among the picks ps, as numbers of the graph below. Those that ps lacks fall away.
+abbrev pub through : List ℕ → List ℕ → List ℕ
+through ps qs = map (λ q. getD ps q 0) (below (length ps) qs)
