@@ -1,3 +1,4 @@
 pub mod Cuts
 pub mod Firsts
-pub mod Rows
+pub mod Members
+pub mod TableLaws

@@ -1,3 +1,2 @@
-pub mod Bands
 pub mod Picks
 pub mod Refusals

@@ -1,7 +1,5 @@
-// Sheets, which are graphs that can be asked, and keys, which say what fits.
+// Sheets: graphs that can be asked.
 
-pub mod band;
-pub mod keys;
 pub mod part;
 pub mod refusal;
 pub mod sheet;

@@ -8,7 +8,7 @@ use Rattle.graphs.specs.declared.Code.{Code}
 use Rattle.graphs.specs.declared.Pay.{Pay}
 use Rattle.graphs.specs.Firsts.{firstBy}
 use Rattle.graphs.specs.Sights.{sameCode}
-use Rattle.sheets.specs.declared.band.Band.{Band}
+use Rattle.keys.specs.declared.bands.Band.{Band}
 
 -- the first row with the code
 abbrev pub firstBand : List Band → Code → Option Band

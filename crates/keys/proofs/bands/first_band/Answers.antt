@@ -4,7 +4,7 @@ use Rattle.std.proofs.shelf.Lists.{getD-default}
 use Rattle.std.proofs.shelf.Tests.{eq-eqb, ne-eqb}
 use Rattle.graphs.proofs.Firsts.{firstBy-here, firstBy-more, firstBy-all}
 use Rattle.graphs.specs.Sights.{sameCode}
-use Rattle.sheets.proofs.keys.first_band.Needs as need
+use Rattle.keys.proofs.bands.first_band.Needs as need
 
 pub returns-then-row-code : need.returns-then-row-code
 returns-then-row-code c =

@@ -5,10 +5,10 @@ ghost use mathlib.Core.Bool.{Bool};
 ghost use denote.Ref.{now};
 ghost use Rattle.graphs.specs.declared.Code.{Code as TheCode};
 ghost use Rattle.graphs.specs.Sights.{sameCode, sameKind};
-ghost use Rattle.sheets.specs.Bands.{firstBand, bandFits};
-use crate::band::Band;
 use graphs::Code;
 use graphs::Pay;
+
+pub mod bands;
 
 // A set of pairs of a code and a label that fit. A question answers what the set says and leaves the key as it was.
 pub trait Key<L> {
@@ -41,36 +41,5 @@ pub impl Key<Pay> for SameKind as SameKindKey {
 
     fn fit(&self, code: Code, label: Pay) -> bool {
         code.number == label.kind
-    }
-}
-
-// The band key, on the caller's rows. The first row with the code decides: the label has its kind, and an amount from low to high, both ends counting. A code without a row fits nothing.
-#[derive(Clone, Copy)]
-pub struct Bands<'a> {
-    pub rows: &'a [Band],
-}
-
-// The first row with the code.
-fn first_band(rows: &[Band], code: Code) -> Option<Band>
-    ensures { λ r. ⌜ r ≡ firstBand (now (rows .entry)) code ⌝ }
-{
-    for row in rows {
-        if row.code.number == code.number {
-            return Some(*row);
-        }
-    }
-    None
-}
-
-pub impl<'a> Key<Pay> for Bands<'a> as BandKey {
-    ghost fits = { λ k. bandFits (now (k .rows)) };
-
-    fn fit(&self, code: Code, label: Pay) -> bool {
-        match first_band(self.rows, code) {
-            Some(band) => {
-                band.kind == label.kind && band.low <= label.pence && label.pence <= band.high
-            }
-            None => false,
-        }
     }
 }
