@@ -1,4 +1,4 @@
-pub mod Cuts
 pub mod Firsts
 pub mod Members
-pub mod TableLaws
+pub mod Parts
+pub mod Tables

@@ -7,7 +7,7 @@ ghost use Prim.Native.Nat.{ℕ, _<_, _≤_};
 ghost use lib.ListN.{length, getD, take};
 ghost use denote.Ref.{now};
 ghost use Rattle.std.specs.Results.{isOk};
-ghost use Rattle.graphs.proofs.Cuts.{part-sound, rising-front};
+ghost use Rattle.graphs.proofs.Parts.{part-sound, rising-front};
 ghost use Rattle.graphs.specs.Parts.{partGraph};
 ghost use Rattle.sheets.specs.Picks.{aboveLast, answered, picksAfter};
 use crate::refusal::PickRefusal;

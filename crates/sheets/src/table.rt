@@ -2,7 +2,7 @@
 
 ghost use mathlib.Core.Path.{_≡_};
 ghost use denote.Ref.{now};
-ghost use Rattle.graphs.proofs.Rows.{table-sound};
+ghost use Rattle.graphs.proofs.Tables.{table-sound};
 ghost use Rattle.graphs.specs.Tables.{firstTie, tableGraph};
 use crate::sheet::Sheet;
 use graphs::Tie;

@@ -23,7 +23,7 @@ returns g c =
     let room : p .count < 256 = ok-room (p .picks) (p .count) (c .args .vertex) (omega arith) n ok in
     record {
       answer = ok;
-      sheet = refl;
+      sheet = refl {a = p .below};
       picks = ok-picks (p .picks) (p .count) (c .args .vertex) (omega arith) n ok (omega arith);
-      refused = λ e. absurd (true≢false e);
+      refused = λ e. elim (true≢false e) [ ];
     }

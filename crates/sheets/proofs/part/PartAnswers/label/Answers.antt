@@ -1,6 +1,6 @@
 use mathlib.Core.Path.{_∙_}
 use native.Mathlib.Omega.{arith}
-use Rattle.graphs.proofs.Cuts.{label-front}
+use Rattle.graphs.proofs.Parts.{label-front}
 use Rattle.sheets.proofs.part.PartAnswers.label.Needs as need
 
 pub returns-then-vertex-self : need.returns-then-vertex-self

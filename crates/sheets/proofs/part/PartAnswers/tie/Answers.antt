@@ -1,6 +1,6 @@
 use mathlib.Core.Path.{_∙_}
 use native.Mathlib.Omega.{arith}
-use Rattle.graphs.proofs.Cuts.{tie-front}
+use Rattle.graphs.proofs.Parts.{tie-front}
 use Rattle.sheets.proofs.part.PartAnswers.tie.Needs as need
 
 pub returns-then-to-self : need.returns-then-to-self
