@@ -1,4 +1,5 @@
 pub mod Firsts
 pub mod Members
+pub mod Occurrences
 pub mod Parts
 pub mod Tables
