@@ -1,5 +1,6 @@
 pub mod Alike
 pub mod Firsts
+pub mod Isomorphisms
 pub mod Members
 pub mod Occurrences
 pub mod Parts
