@@ -2,6 +2,7 @@ pub mod Alike
 pub mod Firsts
 pub mod Isomorphisms
 pub mod Members
+pub mod Nested
 pub mod Occurrences
 pub mod Parts
 pub mod Tables

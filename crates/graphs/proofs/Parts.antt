@@ -19,13 +19,13 @@ use Rattle.graphs.specs.Parts.{Rising, below, picked, partGraph}
 abbrev pub few : ℕ → List ℕ → ℕ
 few n ps = length (below n ps)
 
-few-yes : (n x : ℕ) (xs : List ℕ) → x < n → few n (x ∷ xs) ≡ suc (few n xs)
+pub few-yes : (n x : ℕ) (xs : List ℕ) → x < n → few n (x ∷ xs) ≡ suc (few n xs)
 few-yes n x xs h = ap length (cond-true _ _ _ (lt-ltb x n h))
 
 few-no : (n x : ℕ) (xs : List ℕ) → n ≤ x → few n (x ∷ xs) ≡ few n xs
 few-no n x xs h = ap length (cond-false _ _ _ (le-ltb x n h))
 
-rising-tail : (x : ℕ) (xs : List ℕ) → Rising (x ∷ xs) → Rising xs
+pub rising-tail : (x : ℕ) (xs : List ℕ) → Rising (x ∷ xs) → Rising xs
 rising-tail x xs r i j h k = r (suc i) (suc j) (omega arith) (omega arith)
 
 -- in a rising list nothing after a number that is too large is small
@@ -33,7 +33,7 @@ few-none : (n : ℕ) (xs : List ℕ) → ((j : ℕ) → j < length xs → n ≤ 
 few-none n [] h = refl
 few-none n (x ∷ xs) h = few-no n x xs (h zero (omega arith)) ∙ few-none n xs (λ j k. h (suc j) (omega arith))
 
-few-stops : (n x : ℕ) (xs : List ℕ) → Rising (x ∷ xs) → n ≤ x → few n (x ∷ xs) ≡ 0
+pub few-stops : (n x : ℕ) (xs : List ℕ) → Rising (x ∷ xs) → n ≤ x → few n (x ∷ xs) ≡ 0
 few-stops n x xs r l = few-no n x xs l ∙ few-none n xs (λ j k. omega (arith, r zero (suc j) (omega arith) (omega arith)))
 
 abbrev Small : ℕ → List ℕ → ℕ → Type 0

@@ -1,4 +1,5 @@
 -- The part of a graph that some picked vertices make.
+use mathlib.Core.Path.{_≡_}
 use mathlib.Core.Bool.{cond}
 use mathlib.Core.List.{List, map}
 use Prim.Native.Nat.{ℕ, _<_}
@@ -32,3 +33,8 @@ partGraph g ps = record {
 -- picks among the picks ps, as numbers of the graph below. Those that ps lacks fall away.
 abbrev pub through : List ℕ → List ℕ → List ℕ
 through ps qs = map (λ q. getD ps q 0) (below (length ps) qs)
+
+-- what the part by picks among the picks of a part is: a part of the graph below, by picks that ascend
+pub record PartOfPart {L : Type 0} (g : Graph L) (ps qs : List ℕ) : Type 0 where
+  pub same : partGraph (partGraph g ps) qs ≡ partGraph g (through ps qs)
+  pub rising : Rising (through ps qs)
