@@ -32,6 +32,9 @@ module _ {X : Type 0} where
   in-getD (x ∷ xs) zero d h = inl refl
   in-getD (x ∷ xs) (suc i) d h = inr (in-getD xs i d (omega arith))
 
+  pub in-from-has : (x d : X) (xs : List X) → Has xs x → In x xs
+  in-from-has x d xs h = subst (λ y. In y xs) (h .2 d) (in-getD xs (h .0) d (h .1))
+
   pub all-in : (P : X → Type 0) (x : X) (xs : List X) → All P xs → In x xs → P x
   all-in P x [] h i = absurd i
   all-in P x (y ∷ ys) h (inl e) = subst P e (h .0)
@@ -78,6 +81,11 @@ module _ {X : Type 0} where
     pairwise-at (x ∷ xs) d h zero (suc j) l k = all-getD (R x) xs j d (omega arith) (h .0)
     pairwise-at (x ∷ xs) d h (suc i) zero l k = let none : ⊥ = omega arith in absurd none
     pairwise-at (x ∷ xs) d h (suc i) (suc j) l k = pairwise-at xs d (h .1) i j (omega arith) (omega arith)
+
+    pub pairwise-from-places : (xs : List X) (d : X) → ((i j : ℕ) → i < j → j < length xs → R (getD xs i d) (getD xs j d)) → Pairwise R xs
+    pairwise-from-places [] d h = tt
+    pairwise-from-places (x ∷ xs) d h =
+        (all-from-getD (R x) xs d (λ i l. h 0 (suc i) (omega arith) (omega arith)), pairwise-from-places xs d (λ i j l k. h (suc i) (suc j) (omega arith) (omega arith)))
 
 module _ {X Y : Type 0} where
   pub in-map : (f : X → Y) (x : X) (xs : List X) → In x xs → In (f x) (map f xs)

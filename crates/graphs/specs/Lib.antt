@@ -1,8 +1,9 @@
+pub mod Alike
 pub mod Firsts
 pub mod Graphs
-pub mod Tables
+pub mod Isomorphisms
+pub mod Laws
+pub mod Occurrences
 pub mod Parts
 pub mod Sights
-pub mod Occurrences
-pub mod Alike
-pub mod Isomorphisms
+pub mod Tables
