@@ -1,4 +1,5 @@
 pub mod Alike
+mod Examples
 pub mod Firsts
 pub mod Isomorphisms
 pub mod Members
