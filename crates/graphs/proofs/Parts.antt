@@ -13,7 +13,7 @@ use Rattle.std.specs.Options.{isSome}
 use Rattle.std.specs.declared.option.Option.{Option}
 use Rattle.std.specs.declared.option.Option.the-variants.{Some, None}
 use Rattle.graphs.specs.Graphs.{Graph, Sound}
-use Rattle.graphs.specs.Parts.{Rising, below, picked, partGraph}
+use Rattle.graphs.specs.Parts.{Ascends, Rising, below, picked, partGraph}
 
 -- how many numbers of a list are below n
 abbrev pub few : ℕ → List ℕ → ℕ
@@ -124,7 +124,7 @@ module _ {L : Type 0} (g : Graph L) (xs : List ℕ) (n : ℕ) (fits : n ≤ leng
   tie-front u v h k =
       sym (picked-front u (λ a. picked (take n xs) v (λ b. g .tie a b)) h ∙ picked-front v (λ b. g .tie (getD xs u 0) b) k)
 
-pub rising-front : (xs : List ℕ) (n : ℕ) → ((i j : ℕ) → i < j → j < n → getD xs i 0 < getD xs j 0) → Rising (take n xs)
+pub rising-front : (xs : List ℕ) (n : ℕ) → Ascends xs n → Rising (take n xs)
 rising-front xs n r i j h k =
     let l : j < n = omega (arith, length-take n xs) in
     let m : i < n = omega arith in

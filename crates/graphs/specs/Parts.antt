@@ -10,9 +10,12 @@ use Rattle.std.specs.declared.option.Option.{Option}
 use Rattle.std.specs.declared.option.Option.the-variants.{None}
 use Rattle.graphs.specs.Graphs.{Graph}
 
--- strictly ascending
+-- the first n numbers strictly ascend
+abbrev pub Ascends : List ℕ → ℕ → Type 0
+Ascends xs n = (i j : ℕ) → i < j → j < n → getD xs i 0 < getD xs j 0
+
 abbrev pub Rising : List ℕ → Type 0
-Rising ps = (i j : ℕ) → i < j → j < length ps → getD ps i 0 < getD ps j 0
+Rising ps = Ascends ps (length ps)
 
 -- the numbers of the list that are below n
 abbrev pub below : ℕ → List ℕ → List ℕ

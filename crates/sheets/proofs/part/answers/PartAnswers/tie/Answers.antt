@@ -1,7 +1,7 @@
 use mathlib.Core.Path.{_∙_}
 use native.Mathlib.Omega.{arith}
 use Rattle.graphs.proofs.Parts.{tie-front}
-use Rattle.sheets.proofs.part.PartAnswers.tie.Needs as need
+use Rattle.sheets.proofs.part.answers.PartAnswers.tie.Needs as need
 
 pub returns-then-to-self : need.returns-then-to-self
 returns-then-to-self g c =

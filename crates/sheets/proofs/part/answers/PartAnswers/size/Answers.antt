@@ -9,8 +9,8 @@ use lib.ListN.{length, getD, take}
 use Rattle.std.proofs.shelf.Filters.{length-kept-by-more}
 use Rattle.std.proofs.shelf.Tests.{cond-true, cond-false, lt-ltb, le-ltb}
 use Rattle.graphs.specs.Parts.{below}
-use Rattle.sheets.proofs.part.PartAnswers.size.Needs as need
-use Rattle.sheets.proofs.part.PartAnswers.size.Needs.{then-self-i, else-self-i}
+use Rattle.sheets.proofs.part.answers.PartAnswers.size.Needs as need
+use Rattle.sheets.proofs.part.answers.PartAnswers.size.Needs.{then-self-i, else-self-i}
 
 counts : (n : ℕ) (xs : List ℕ) (i s t : ℕ) → i < length xs → (s ≤ i) × (s ≡ length (below n (take i xs)))
     → ((getD xs i 0 < n) × (t ≡ s + 1)) ⊎ ((n ≤ getD xs i 0) × (t ≡ s)) → (t ≤ i + 1) × (t ≡ length (below n (take (i + 1) xs)))

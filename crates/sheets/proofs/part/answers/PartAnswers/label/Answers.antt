@@ -1,7 +1,7 @@
 use mathlib.Core.Path.{_∙_}
 use native.Mathlib.Omega.{arith}
 use Rattle.graphs.proofs.Parts.{label-front}
-use Rattle.sheets.proofs.part.PartAnswers.label.Needs as need
+use Rattle.sheets.proofs.part.answers.PartAnswers.label.Needs as need
 
 pub returns-then-vertex-self : need.returns-then-vertex-self
 returns-then-vertex-self g c =
