@@ -27,21 +27,31 @@ fn band(number: u32, kind: u32, low: u32, high: u32) -> Band {
 
 #[test]
 fn same_code_and_kind_fit() -> Result<(), Fail> {
-    check(SameCode.fit(code(9999), code(9999)))?;
-    check(!SameCode.fit(code(9999), code(9998)))?;
-    check(SameKind.fit(code(10), pay(10, 500)))?;
-    check(!SameKind.fit(code(10), pay(500, 10)))
+    check_eq(
+        [
+            SameCode.fit(code(9999), code(9999)),
+            SameCode.fit(code(9999), code(9998)),
+            SameKind.fit(code(10), pay(10, 500)),
+            SameKind.fit(code(10), pay(500, 10)),
+        ],
+        [true, false, true, false],
+    )
 }
 
 #[test]
 fn both_ends_of_a_band_fit() -> Result<(), Fail> {
     let rows = [band(5, 10, 100, 200)];
     let key = Bands { rows: &rows };
-    check(!key.fit(code(5), pay(10, 99)))?;
-    check(key.fit(code(5), pay(10, 100)))?;
-    check(key.fit(code(5), pay(10, 200)))?;
-    check(!key.fit(code(5), pay(10, 201)))?;
-    check(!key.fit(code(5), pay(11, 150)))
+    check_eq(
+        [
+            key.fit(code(5), pay(10, 99)),
+            key.fit(code(5), pay(10, 100)),
+            key.fit(code(5), pay(10, 200)),
+            key.fit(code(5), pay(10, 201)),
+            key.fit(code(5), pay(11, 150)),
+        ],
+        [false, true, true, false, false],
+    )
 }
 
 #[test]
@@ -52,8 +62,13 @@ fn first_row_of_a_code_decides() -> Result<(), Fail> {
         band(5, 10, 300, 400),
     ];
     let key = Bands { rows: &rows };
-    check(key.fit(code(5), pay(10, 150)))?;
-    check(!key.fit(code(5), pay(10, 350)))?;
-    check(key.fit(code(4), pay(10, 9)))?;
-    check(!key.fit(code(6), pay(10, 150)))
+    check_eq(
+        [
+            key.fit(code(5), pay(10, 150)),
+            key.fit(code(5), pay(10, 350)),
+            key.fit(code(4), pay(10, 9)),
+            key.fit(code(6), pay(10, 150)),
+        ],
+        [true, false, true, false],
+    )
 }

@@ -20,9 +20,10 @@ fn first_row_of_a_pair_decides() -> Result<(), Fail> {
         ties: &ties,
     };
     check_eq(sheet.size(), 3)?;
-    check_eq(sheet.tie(0, 1), Some(code(7)))?;
-    check_eq(sheet.tie(1, 0), Some(code(9)))?;
-    check_eq(sheet.tie(0, 2), None)
+    check_eq(
+        [sheet.tie(0, 1), sheet.tie(1, 0), sheet.tie(0, 2)],
+        [Some(code(7)), Some(code(9)), None],
+    )
 }
 
 #[test]
@@ -33,10 +34,15 @@ fn rows_to_itself_or_to_a_missing_vertex_count_for_nothing() -> Result<(), Fail>
         labels: &labels,
         ties: &ties,
     };
-    check_eq(sheet.tie(1, 1), None)?;
-    check_eq(sheet.tie(0, 2), None)?;
-    check_eq(sheet.tie(2, 0), None)?;
-    check_eq(sheet.tie(0, 1), Some(code(9)))
+    check_eq(
+        [
+            sheet.tie(1, 1),
+            sheet.tie(0, 2),
+            sheet.tie(2, 0),
+            sheet.tie(0, 1),
+        ],
+        [None, None, None, Some(code(9))],
+    )
 }
 
 #[test]
@@ -47,6 +53,5 @@ fn only_vertices_have_labels() -> Result<(), Fail> {
         labels: &labels,
         ties: &ties,
     };
-    check_eq(sheet.label(1), Some(code(20)))?;
-    check_eq(sheet.label(2), None)
+    check_eq([sheet.label(1), sheet.label(2)], [Some(code(20)), None])
 }

@@ -6,8 +6,11 @@ ghost use lib.ListN.{length};
 ghost use Rattle.graphs.specs.Parts.{Ascends};
 ghost use Rattle.sheets.specs.Picks.{mostPicks};
 
-pub mod answers;
-pub mod picks;
+mod answers;
+mod picks;
+
+pub use answers::PartAnswers;
+pub use answers::part_of_part_is_a_part;
 
 // How many picks a part holds at most.
 pub const MOST_PICKS: usize = 256;
