@@ -3,7 +3,7 @@
 ghost use mathlib.Core.Path.{_≡_};
 ghost use denote.Ref.{now};
 ghost use Rattle.graphs.proofs.Parts.{part-sound, rising-front};
-ghost use Rattle.graphs.specs.Parts.{partGraph, through};
+ghost use Rattle.graphs.specs.Parts.{partGraph, PartOfPart};
 ghost use Rattle.sheets.specs.Parts.{picksOf};
 use crate::part::Part;
 use crate::sheet::Sheet;
@@ -45,7 +45,7 @@ pub impl<S: Sheet> Sheet for Part<S> as PartAnswers {
 
 // The graph of a part of a part is that of a part of the sheet below both, by the picks of picks. The function carries this law, and does nothing.
 pub fn part_of_part_is_a_part<S: Sheet>(part: &Part<Part<S>>)
-    ensures { λ _. ⌜ partGraph (partGraph (S·Sheet .graph (now (part .entry) .below .below)) (picksOf (now (part .entry) .below))) (picksOf (now (part .entry))) ≡ partGraph (S·Sheet .graph (now (part .entry) .below .below)) (through (picksOf (now (part .entry) .below)) (picksOf (now (part .entry)))) ⌝ }
+    ensures { λ _. ⌜ PartOfPart (S·Sheet .graph (now (part .entry) .below .below)) (picksOf (now (part .entry) .below)) (picksOf (now (part .entry))) ⌝ }
 {
     let _ = part;
 }

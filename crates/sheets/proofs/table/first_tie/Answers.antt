@@ -16,7 +16,10 @@ returns-then-tie-to g c =
 pub loop-tie-again : need.loop-tie-again
 loop-tie-again g c =
     let other : runs (c .args .from) (c .args .to) (c .tie-item .result) ≡ false =
-    elim (c .else-tie-from .came) [ else-tie-from·by·then-tie-from·else-tie-to w ↦ and-right _ _ (ne-eqb _ _ (w .if-tie-to .left)) | else-tie-from·by·else-tie-from w ↦ and-left _ _ (ne-eqb _ _ (w .if-tie-from .left)) ] in
+    elim (c .else-tie-from .came) [
+      | else-tie-from·by·then-tie-from·else-tie-to w ↦ and-right _ _ (ne-eqb _ _ (w .if-tie-to .left))
+      | else-tie-from·by·else-tie-from w ↦ and-left _ _ (ne-eqb _ _ (w .if-tie-from .left))
+    ] in
     c .loop-tie .inv
     ∙ firstBy-more (runs (c .args .from) (c .args .to)) (c .args .ties .now) (c .loop-tie .tie-index) (c .tie-item .result) (c .loop-tie-test .taken)
     (c .tie-item .is) other

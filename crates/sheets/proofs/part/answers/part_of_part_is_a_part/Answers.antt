@@ -8,4 +8,4 @@ returns g c =
     let q = c .args .part .now in
     let p = q .below in
     part-of-part (picksOf p) (picksOf q) (rising-front (p .picks) (p .count) (p .ascending)) (rising-front (q .picks) (q .count) (q .ascending))
-    (g .S·Sheet .graph (p .below)) .same
+    (g .S·Sheet .graph (p .below))
