@@ -7,3 +7,4 @@ pub mod Nested
 pub mod Occurrences
 pub mod Parts
 pub mod Tables
+pub mod Words

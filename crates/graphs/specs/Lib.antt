@@ -7,3 +7,4 @@ pub mod Occurrences
 pub mod Parts
 pub mod Sights
 pub mod Tables
+pub mod Words

@@ -1,6 +1,5 @@
 // What a part answers: it is a sheet again, so parts may be taken of parts.
 
-ghost use mathlib.Core.Path.{_≡_};
 ghost use denote.Ref.{now};
 ghost use Rattle.graphs.proofs.Parts.{part-sound, rising-front};
 ghost use Rattle.graphs.specs.Parts.{partGraph, PartOfPart};
