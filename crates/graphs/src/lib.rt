@@ -1,5 +1,7 @@
 // The plain types of a graph: labels and ties.
 
+pub mod laws;
+
 // A code: in a pattern, what a vertex or a tie is. The rules allow 1 to 9,999; the type holds any number, so that a call can refuse a bad one.
 #[derive(Clone, Copy, PartialEq, Eq, Debug)]
 pub struct Code {

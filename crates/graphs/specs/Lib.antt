@@ -1,0 +1,10 @@
+pub mod Alike
+pub mod Firsts
+pub mod Graphs
+pub mod Isomorphisms
+pub mod Laws
+pub mod Occurrences
+pub mod Parts
+pub mod Sights
+pub mod Tables
+pub mod Words
