@@ -13,6 +13,7 @@ use Rattle.graphs.specs.declared.Tie.{Tie}
 use Rattle.fields.specs.Lines.{overlaid}
 use Rattle.fields.specs.Split.{ended}
 use Rattle.fields.proofs.Overlaid.{overlaid-push}
+use Rattle.faults.specs.declared.FaultyLine.{FaultyLine}
 use Rattle.faults.specs.declared.LineFault.{LineFault}
 use Rattle.faults.specs.declared.TextFault.the-variants.{InLine}
 use Rattle.grammar.specs.declared.records.Counts.{Counts}
@@ -39,9 +40,13 @@ Filling form number text vs₀ ts₀ p vs ts k lines =
     × Front (p .counts .vertices) vs vs₀ × Front (p .counts .ties) ts ts₀
 
 -- a placed fault is none where the line has none
-pub placed-ok : {X : Type 0} (text k : ℕ) (r : Result X LineFault) (x : X) → placedAt text k r ≡ Ok x → r ≡ Ok x
+placed-ok : {X : Type 0} (text k : ℕ) (r : Result X LineFault) (x : X) → placedAt text k r ≡ Ok x → r ≡ Ok x
 placed-ok text k (Ok y) x e = cc
 placed-ok text k (Err f) x e = absurd (let z : _≡_ {A = ℕ} 0 1 = cc in omega arith)
+
+-- so what the line reads as is what was said
+pub read-ok : {X : Type 0} (text k : ℕ) (q r : Result X LineFault) (p : Result X FaultyLine) (x : X) → r ≡ q → p ≡ placedAt text k r → p ≡ Ok x → q ≡ Ok x
+read-ok text k q r p x e f g = sym e ∙ placed-ok text k r x (sym f ∙ g)
 
 -- a line that is taken: what is left reads on from what it adds
 reads-on : {L : Type 0} (form : Form L) (room : Counts) (number : ℕ) (s : State L) (k : ℕ) (line : List ℕ) (lines : List (List ℕ)) (r : Record L)

@@ -29,6 +29,15 @@ pub struct Progress {
     pub counts: Counts,
 }
 
+// Nothing is read yet.
+const START: Progress = Progress {
+    stage: Stage::Opening,
+    counts: Counts {
+        vertices: 0,
+        ties: 0,
+    },
+};
+
 // What the next line says, after those by which the reader has come so far and filled the front of a list of ties.
 fn read_next<L: Label>(
     line: &[u8],
@@ -127,13 +136,7 @@ fn read_lines<L: Label>(
         vertices: vertices.len(),
         ties: ties.len(),
     };
-    let mut progress = Progress {
-        stage: Stage::Opening,
-        counts: Counts {
-            vertices: 0,
-            ties: 0,
-        },
-    };
+    let mut progress = START;
     let mut lines = Pieces::new(text, b'\n');
     while let Some(line) = lines.next() {
         if lines.is_done() {
