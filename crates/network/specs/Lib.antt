@@ -1,4 +1,6 @@
 pub mod Cutting
+pub mod Joining
+pub mod Laws
 pub mod Ledger
 pub mod Limits
 pub mod Pieces

@@ -1,0 +1,4 @@
+mod Examples
+pub mod Pieces
+pub mod Rows
+pub mod Unions
