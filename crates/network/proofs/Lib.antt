@@ -1,4 +1,6 @@
 mod Examples
+pub mod Permutations
 pub mod Pieces
 pub mod Rows
+pub mod Seats
 pub mod Unions

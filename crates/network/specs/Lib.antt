@@ -5,5 +5,6 @@ pub mod Ledger
 pub mod Limits
 pub mod Pieces
 pub mod Rules
+pub mod Seats
 pub mod Seeking
 pub mod Sweeping

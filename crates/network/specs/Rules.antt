@@ -4,7 +4,6 @@ use mathlib.Core.List.{List, [], _∷_, _++_}
 use Prim.Native.Nat.{ℕ, _+_}
 use lib.Dec.{ltb, leb, eqb}
 use lib.ListN.{length, getD}
-use Rattle.std.specs.Iters.{counting}
 use Rattle.std.specs.shelf.Lists.{sumBy}
 use Rattle.graphs.specs.declared.Code.{Code}
 use Rattle.graphs.specs.declared.Tie.{Tie}
@@ -54,9 +53,13 @@ abbrev pub noneAlike : List (Graph Code) → Bool
 noneAlike [] = true
 noneAlike (g ∷ gs) = every (λ h. not (alike g h)) gs && noneAlike gs
 
--- whether the numbers are those below n, each once: there are n of them, and every one is there
+abbrev pub noneTwice : List ℕ → Bool
+noneTwice [] = true
+noneTwice (v ∷ vs) = not (has vs v) && noneTwice vs
+
+-- whether the numbers are those below n, each once
 abbrev pub permutes : ℕ → List ℕ → Bool
-permutes n seats = eqb (length seats) n && every (has seats) (counting 0 n)
+permutes n seats = eqb (length seats) n && (every (λ v. ltb v n) seats && noneTwice seats)
 
 abbrev pub goodPattern : List (Graph Code) → Pattern → Bool
 goodPattern gs p = ltb (p .piece) (length gs) && permutes (getD gs (p .piece) noGraph .size) (p .seats)
