@@ -1,4 +1,6 @@
 mod Examples
+pub mod Firsts
+pub mod Fronts
 pub mod Permutations
 pub mod Pieces
 pub mod Rows
