@@ -1,3 +1,7 @@
+pub mod Additions
+pub mod Choosing
+pub mod Crossing
+pub mod Cutting
 mod Examples
 pub mod Firsts
 pub mod Fronts
@@ -5,4 +9,5 @@ pub mod Permutations
 pub mod Pieces
 pub mod Rows
 pub mod Seats
+pub mod Standing
 pub mod Unions
