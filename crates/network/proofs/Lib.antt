@@ -5,9 +5,11 @@ pub mod Cutting
 mod Examples
 pub mod Firsts
 pub mod Fronts
+pub mod Ledger
 pub mod Permutations
 pub mod Pieces
 pub mod Rows
 pub mod Seats
 pub mod Standing
 pub mod Unions
+pub mod Wholes
