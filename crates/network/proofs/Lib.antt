@@ -12,4 +12,5 @@ pub mod Rows
 pub mod Seats
 pub mod Standing
 pub mod Unions
+pub mod Vertices
 pub mod Wholes
