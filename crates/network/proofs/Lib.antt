@@ -11,6 +11,7 @@ pub mod Pieces
 pub mod Rows
 pub mod Seats
 pub mod Standing
+pub mod Ties
 pub mod Unions
 pub mod Vertices
 pub mod Wholes
