@@ -1,5 +1,6 @@
 -- Pieces that are added at the end leave the graphs of those before them as they were.
 use mathlib.Core.Path.{_≡_, refl, sym, ap, _∙_}
+use mathlib.Core.Bool.{true}
 use mathlib.Core.List.{List, [], _∷_, _++_}
 use Prim.Native.Nat.{ℕ, zero, suc, _+_, _<_}
 use native.Mathlib.Nat.{zero-add}
@@ -8,9 +9,11 @@ use lib.ListN.{length, getD}
 use Rattle.std.specs.Finite.{nth}
 use Rattle.std.specs.declared.option.Option.the-variants.{Some, None}
 use Rattle.std.proofs.shelf.Lists.{length-push, getD-push}
+use Rattle.std.proofs.shelf.Tests.{and-from, and-parts}
 use Rattle.graphs.specs.declared.Code.{Code}
 use Rattle.graphs.specs.Graphs.{Graph}
 use Rattle.network.specs.Pieces.{Piece, vertex, join, noGraph, single, graphFrom, graphsAfter, graphs, graphAt}
+use Rattle.network.specs.Rules.{goodPiece, goodPieces}
 use Rattle.network.proofs.Pieces.{graphs-stay}
 
 graphs-append : (gs : List (Graph Code)) (ps qs : List Piece) → graphsAfter gs (ps ++ qs) ≡ graphsAfter (graphsAfter gs ps) qs
@@ -43,3 +46,9 @@ vertex-after c gs (p ∷ ps) (suc i) k at e =
 
 pub graph-of-vertex : (c : Code) (ps : List Piece) (k : ℕ) → nth ps k ≡ Some (vertex c) → graphAt ps k ≡ single c
 graph-of-vertex c ps k e = vertex-after c [] ps k k (zero-add k) e
+
+pub good-added : (gs : List (Graph Code)) (ps : List Piece) (p : Piece) → goodPieces gs ps ≡ true → goodPiece (graphsAfter gs ps) p ≡ true → goodPieces gs (ps ++ p ∷ []) ≡ true
+good-added gs [] p h k = and-from (goodPiece gs p) true k refl
+good-added gs (q ∷ qs) p h k =
+    let r = and-parts (goodPiece gs q) (goodPieces (gs ++ graphFrom gs q ∷ []) qs) h in
+    and-from (goodPiece gs q) (goodPieces (gs ++ graphFrom gs q ∷ []) (qs ++ p ∷ [])) (r .0) (good-added (gs ++ graphFrom gs q ∷ []) qs p (r .1) k)

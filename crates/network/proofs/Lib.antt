@@ -5,6 +5,7 @@ pub mod Cutting
 mod Examples
 pub mod Firsts
 pub mod Fronts
+pub mod Keeping
 pub mod Ledger
 pub mod Permutations
 pub mod Pieces

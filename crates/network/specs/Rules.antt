@@ -1,10 +1,12 @@
 -- The rules that a book keeps, as tests of its pieces and patterns.
+use mathlib.Core.Path.{_≡_}
 use mathlib.Core.Bool.{Bool, true, false, cond, not, _&&_, _||_}
 use mathlib.Core.List.{List, [], _∷_, _++_}
 use Prim.Native.Nat.{ℕ, _+_}
 use lib.Dec.{ltb, leb, eqb}
 use lib.ListN.{length, getD}
 use Rattle.std.specs.shelf.Lists.{sumBy}
+use Rattle.std.specs.declared.option.Option.the-variants.{Some}
 use Rattle.graphs.specs.declared.Code.{Code}
 use Rattle.graphs.specs.declared.Tie.{Tie}
 use Rattle.graphs.specs.Graphs.{Graph}
@@ -23,6 +25,11 @@ has (x ∷ xs) v = eqb x v || has xs v
 
 abbrev pub goodCode : Code → Bool
 goodCode c = leb lowestCode (c .number) && leb (c .number) highestCode
+
+-- every code of the graph is a good one
+pub record GoodCodes (g : Graph Code) : Type 0 where
+  pub labels : (v : ℕ) (c : Code) → g .label v ≡ Some c → goodCode c ≡ true
+  pub ties : (u v : ℕ) (c : Code) → g .tie u v ≡ Some c → goodCode c ≡ true
 
 -- whether a tie among n vertices runs between the first m and the others
 abbrev pub crosses : ℕ → ℕ → Tie Code → Bool
