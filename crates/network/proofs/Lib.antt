@@ -1,5 +1,6 @@
 pub mod Additions
 pub mod Choosing
+pub mod Covering
 pub mod Crossing
 pub mod Cutting
 mod Examples
@@ -14,5 +15,6 @@ pub mod Seats
 pub mod Standing
 pub mod Ties
 pub mod Unions
+pub mod Unlike
 pub mod Vertices
 pub mod Wholes
