@@ -1,5 +1,5 @@
 -- Pieces that are added at the end leave the graphs of those before them as they were.
-use mathlib.Core.Path.{_≡_, refl, sym, ap, _∙_}
+use mathlib.Core.Path.{_≡_, refl, ap, _∙_}
 use mathlib.Core.Bool.{true}
 use mathlib.Core.List.{List, [], _∷_, _++_}
 use Prim.Native.Nat.{ℕ, zero, suc, _+_, _<_}
@@ -7,12 +7,12 @@ use native.Mathlib.Nat.{zero-add}
 use native.Mathlib.Omega.{arith}
 use lib.ListN.{length, getD}
 use Rattle.std.specs.Finite.{nth}
-use Rattle.std.specs.declared.option.Option.the-variants.{Some, None}
+use Rattle.std.specs.declared.option.Option.the-variants.{Some}
 use Rattle.std.proofs.shelf.Lists.{length-push, getD-push}
 use Rattle.std.proofs.shelf.Tests.{and-from, and-parts}
 use Rattle.graphs.specs.declared.Code.{Code}
 use Rattle.graphs.specs.Graphs.{Graph}
-use Rattle.network.specs.Pieces.{Piece, vertex, join, noGraph, single, graphFrom, graphsAfter, graphs, graphAt}
+use Rattle.network.specs.Pieces.{Piece, vertex, noGraph, single, graphFrom, graphsAfter, graphs, graphAt}
 use Rattle.network.specs.Rules.{goodPiece, goodPieces}
 use Rattle.network.proofs.Pieces.{graphs-stay}
 

@@ -6,8 +6,10 @@ pub mod Cutting
 mod Examples
 pub mod Firsts
 pub mod Fronts
+pub mod Joins
 pub mod Keeping
 pub mod Ledger
+pub mod Parts
 pub mod Permutations
 pub mod Pieces
 pub mod Rows

@@ -6,15 +6,14 @@ use native.Mathlib.Nat.{zero-add}
 use native.Mathlib.Omega.{arith}
 use lib.ListN.{length, getD}
 use Rattle.std.specs.Finite.{nth}
-use Rattle.std.specs.declared.option.Option.{Option}
-use Rattle.std.specs.declared.option.Option.the-variants.{Some, None}
+use Rattle.std.specs.declared.option.Option.the-variants.{Some}
 use Rattle.std.proofs.shelf.Lists.{length-push, getD-push, getD-append-left}
 use Rattle.graphs.specs.declared.Code.{Code}
 use Rattle.graphs.specs.declared.Tie.{Tie}
 use Rattle.graphs.specs.Graphs.{Graph}
 use Rattle.graphs.specs.Sights.{Sight}
 use Rattle.graphs.specs.Occurrences.{occurrences}
-use Rattle.network.specs.Pieces.{Piece, vertex, join, noGraph, union, graphFrom, graphsAfter, graphAt, rowsAt}
+use Rattle.network.specs.Pieces.{Piece, join, noGraph, union, graphFrom, graphsAfter, graphAt, rowsAt}
 use Rattle.network.specs.Joining.{joinRows}
 use Rattle.network.proofs.Unions.{joined-occurrences}
 
