@@ -14,6 +14,7 @@ pub mod Permutations
 pub mod Pieces
 pub mod Rows
 pub mod Seats
+pub mod Sizes
 pub mod Standing
 pub mod Ties
 pub mod Unions
