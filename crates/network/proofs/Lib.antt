@@ -1,0 +1,23 @@
+pub mod Additions
+pub mod Choosing
+pub mod Covering
+pub mod Crossing
+pub mod Cutting
+mod Examples
+pub mod Firsts
+pub mod Fronts
+pub mod Joins
+pub mod Keeping
+pub mod Ledger
+pub mod Parts
+pub mod Permutations
+pub mod Pieces
+pub mod Rows
+pub mod Seats
+pub mod Sizes
+pub mod Standing
+pub mod Ties
+pub mod Unions
+pub mod Unlike
+pub mod Vertices
+pub mod Wholes

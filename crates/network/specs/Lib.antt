@@ -1,0 +1,11 @@
+pub mod Cutting
+pub mod Firsts
+pub mod Joining
+pub mod Laws
+pub mod Ledger
+pub mod Limits
+pub mod Pieces
+pub mod Rules
+pub mod Seats
+pub mod Seeking
+pub mod Sweeping
