@@ -9,3 +9,4 @@ pub mod Rules
 pub mod Seats
 pub mod Seeking
 pub mod Sweeping
+pub mod Tables

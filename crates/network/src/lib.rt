@@ -1,6 +1,7 @@
 // The plain types of a book's answers: why a call refuses. The definitions and laws of pieces, cutting, ledger and sweeping stand in specs/ and proofs/.
 
 pub mod laws;
+pub mod tables;
 
 // Why an enter is refused.
 #[derive(Clone, Copy, PartialEq, Eq, Debug)]
