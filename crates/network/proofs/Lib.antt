@@ -3,6 +3,7 @@ pub mod Choosing
 pub mod Covering
 pub mod Crossing
 pub mod Cutting
+pub mod Decompositions
 mod Examples
 pub mod Firsts
 pub mod Fronts
@@ -15,6 +16,7 @@ pub mod Pieces
 pub mod Rows
 pub mod Seats
 pub mod Sizes
+pub mod Splits
 pub mod Standing
 pub mod Ties
 pub mod Unions

@@ -1,4 +1,5 @@
 pub mod Cutting
+pub mod Decompositions
 pub mod Firsts
 pub mod Joining
 pub mod Laws
