@@ -15,8 +15,8 @@ read vs i h = get_or_default vs i (record { kind = 0; pence = 0 }) (item vs i) h
 pub loop-count-preserved : goal.loop-count-preserved
 loop-count-preserved c =
     below_more _ _
-    (λ k h. let ne : k ≢ c.loop-count.count_index = omega arith in rw get_or-set_other (c.loop-count.invariant k h))
-    (let lt : c.loop-count.count_index < length c.loop-count.counts = omega arith in rw get_or-set_same)
+    (λ k h. let ne : k ≢ c.loop-count.count-index = omega arith in rw get_or-set_other (c.loop-count.invariant k h))
+    (let lt : c.loop-count.count-index < length c.loop-count.counts = omega arith in rw get_or-set_same)
 
 pub overflow_add-counts : goal.overflow_add-counts
 overflow_add-counts c =

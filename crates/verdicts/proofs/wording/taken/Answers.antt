@@ -21,7 +21,7 @@ whole name c vs out last cs ws zs n p q r len many each =
 
 pub returns-in_err-push_kinds : goal.returns-in_err-push_kinds
 returns-in_err-push_kinds c =
-    let p = err_from_is_err_and c.from-residual-in_err-push_kinds.result c.from-residual-in_err-push_kinds.ensures.1 in rw p.1 tt
+    let p = err_from_is_err_and c.from_residual-in_err-push_kinds.result c.from_residual-in_err-push_kinds.ensures.1 in rw p.1 tt
 
 pub returns : goal.returns
 returns c =

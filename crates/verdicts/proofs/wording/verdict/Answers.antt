@@ -6,11 +6,11 @@ use Rattle.verdicts.proofs.wording.verdict.Goals as goal
 
 pub returns-in_err-ties : goal.returns-in_err-ties
 returns-in_err-ties c =
-    let p = err_from_is_err_and c.from-residual-in_err-ties.result c.from-residual-in_err-ties.ensures.1 in rw p.1 tt
+    let p = err_from_is_err_and c.from_residual-in_err-ties.result c.from_residual-in_err-ties.ensures.1 in rw p.1 tt
 
 pub returns-in_err-name : goal.returns-in_err-name
 returns-in_err-name c =
-    let p = err_from_is_err_and c.from-residual-in_err-name.result c.from-residual-in_err-name.ensures.1 in rw p.1 tt
+    let p = err_from_is_err_and c.from_residual-in_err-name.result c.from_residual-in_err-name.ensures.1 in rw p.1 tt
 
 pub returns : goal.returns
 returns c =

@@ -10,7 +10,11 @@ invariant_of-self g c =
     let ok = c.in_ok-answer.ensures in
     let room : p.count < 256 = ok_room p.picks p.count c.args.vertex (omega arith) n ok in
     let higher = ok_higher p.picks p.count c.args.vertex (omega arith) n ok in
-    (simp length-set p.long, (omega arith, (ascending_more p.picks p.count c.args.vertex (omega arith) p.ascending higher, tt)))
+    record {
+      long = simp length-set p.long;
+      few = omega arith;
+      ascending = ascending_more p.picks p.count c.args.vertex (omega arith) p.ascending higher;
+    }
 
 pub returns : goal.returns
 returns g c =
