@@ -3,7 +3,9 @@
 pub mod book;
 #[cfg(test)]
 mod cases;
+#[cfg(test)]
 mod compared;
+#[cfg(test)]
 mod matcher;
 pub mod random;
 pub mod samples;

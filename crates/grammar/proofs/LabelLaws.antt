@@ -1,6 +1,6 @@
 -- A label is read from fields exactly where they are the numerals of a good label's numbers.
 use Rattle.std.proofs.Common.{◌≡◌, ℕ, suc, ◌+◌, ◌^◌, ◌<◌, ◌≤◌, true, List, [], ◌∷◌, map, length, IfSome, Some, None, Ok, Option, sym, refl, ap, ◌∙◌, arith}
-use Rattle.std.specs.List.{AllByRecursion as All}
+use Rattle.std.specs.List.{AllByRecursion}
 use Rattle.std.proofs.lemmas.List.{nil_from_length}
 use Rattle.std.proofs.lemmas.Bool.{cond-true, and_parts, ltb-true}
 use Rattle.fields.specs.Numbers.{numeral, number_of}
@@ -94,11 +94,11 @@ module _ {L : Type 0} (form : Form L) where
   label_in_lem faith k l good =
       second_in_lem form.second k l (faith.whole l) faith.alone (first_small faith l good) good.first faith.both good.second
 
-  second_small : (o : Option Range) (l : L) → Small (form.one l) → IfSome o (λ r. r.end ≤ 10 ^ 9) → SecondGood o l → All Small (numbers_by o form l)
+  second_small : (o : Option Range) (l : L) → Small (form.one l) → IfSome o (λ r. r.end ≤ 10 ^ 9) → SecondGood o l → AllByRecursion Small (numbers_by o form l)
   second_small None l small both second = (small, tt)
   second_small (Some range) l small both second = (small, (omega (arith, inside_end range (form.two l) second), tt))
 
-  pub label_small : Faithful form → (l : L) → GoodLabel form l → All Small (numbers_of form l)
+  pub label_small : Faithful form → (l : L) → GoodLabel form l → AllByRecursion Small (numbers_of form l)
   label_small faith l good = second_small form.second l (first_small faith l good) faith.both good.second
 
   numbers_width : (o : Option Range) (l : L) → length (map numeral (numbers_by o form l)) ≡ width_by o

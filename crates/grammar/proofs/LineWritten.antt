@@ -1,6 +1,6 @@
 -- The line of a record that is allowed is taken, for that record.
 use Rattle.std.proofs.Common.{◌≡◌, ℕ, ◌+◌, ◌^◌, ◌<◌, ◌≤◌, true, false, cond, eqb, ltb, List, [], ◌∷◌, ◌++◌, map, length, Some, None, Ok, Err, Option, Result, refl, ap, ◌∙◌, arith}
-use Rattle.std.specs.List.{AllByRecursion as All}
+use Rattle.std.specs.List.{AllByRecursion}
 use Rattle.std.proofs.lemmas.Bool.{cond-true, cond-false, and_from, eq-eqb, ne_eqb, le-leb, lt-ltb}
 use Rattle.graphs.specs.declared.Tie.{Tie}
 use Rattle.fields.specs.Numbers.{numeral}
@@ -34,7 +34,7 @@ below_in n u h = and_from _ _ (le-leb 0 u (omega arith)) (lt-ltb u n h)
 module _ {L : Type 0} (form : Form L) where
   -- the numbers of a record that is allowed have at most nine digits
   pub record_small : Faithful form → (room : Counts) (stage : Stage) (n : ℕ) (ts : List (Tie L)) (r : Record L) → n ≤ 10 ^ 9 → Allowed form room stage n ts r
-      → All Small (numbers_for form r)
+      → AllByRecursion Small (numbers_for form r)
   record_small faith room stage n ts Graph w a = (width_small form.second, tt)
   record_small faith room stage n ts (Vertex l) w a = label_small form faith l a.1
   record_small faith room stage n ts (Tied t) w a =

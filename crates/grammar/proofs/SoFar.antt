@@ -1,6 +1,6 @@
 -- What the lines so far have written, and that each record keeps the rules of a graph.
 use Rattle.std.proofs.Common.{◌≡◌, ℕ, ◌≤◌, List, [], ◌∷◌, ◌++◌, length, sym, refl, ap, ◌∙◌, subst, arith}
-use Rattle.std.specs.List.{flat_map, AllByRecursion as All}
+use Rattle.std.specs.List.{flat_map, AllByRecursion}
 use Rattle.std.proofs.lemmas.List.{append_assoc, append-nil, flat_map_more, length_push}
 use Rattle.std.proofs.ByRecursion.{All-push}
 use Rattle.graphs.specs.declared.Tie.{Tie}
@@ -36,8 +36,8 @@ so_far form s = lines_by form s.stage s.labels s.ties
 -- the rules that what is read keeps
 pub record Kept {L : Type 0} (form : Form L) (room : Counts) (s : State L) : Type 0 where
   pub staged : Staged s.stage s.labels s.ties
-  pub labels : All (GoodLabel form) s.labels
-  pub ties : All (GoodTie form (length s.labels)) s.ties
+  pub labels : AllByRecursion (GoodLabel form) s.labels
+  pub ties : AllByRecursion (GoodTie form (length s.labels)) s.ties
   pub different : Different s.ties
   pub vertices : length s.labels ≤ room.vertices
   pub most : length s.ties ≤ room.ties
@@ -111,7 +111,7 @@ module _ {L : Type 0} (form : Form L) (room : Counts) where
       record {
         staged = none;
         labels = All-push (GoodLabel form) s.labels l g.labels a.1;
-        ties = subst (All (GoodTie form (length (s.labels ++ l ∷ [])))) (sym none) tt;
+        ties = subst (AllByRecursion (GoodTie form (length (s.labels ++ l ∷ [])))) (sym none) tt;
         different = g.different;
         vertices = omega (arith, length_push s.labels l, a.2);
         most = g.most;

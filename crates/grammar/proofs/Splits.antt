@@ -1,6 +1,6 @@
 -- The laws of cutting at a separator: the pieces give the text back, and pieces without the separator come back.
 use Rattle.std.proofs.Common.{◌≡◌, ℕ, false, eqb, List, [], ◌∷◌, ◌++◌, sym, refl, ap, ◌∙◌, arith}
-use Rattle.std.specs.List.{flat_map, AllByRecursion as All}
+use Rattle.std.specs.List.{flat_map, AllByRecursion}
 use Rattle.std.proofs.lemmas.List.{append-nil}
 use Rattle.std.proofs.lemmas.Bool.{cond-true, cond-false, cond_both, eq-eqb, eqb-true}
 use Rattle.fields.specs.Split.{split, ahead, ended}
@@ -8,7 +8,7 @@ use Rattle.grammar.specs.Reading.{first_of, rest_of}
 
 -- bytes without a separator
 abbrev pub Without : ℕ → List ℕ → Type 0
-Without s bs = All (λ b. eqb b s ≡ false) bs
+Without s bs = AllByRecursion (λ b. eqb b s ≡ false) bs
 
 -- pieces with the separator between them
 abbrev pub rejoined : ℕ → List (List ℕ) → List ℕ

@@ -1,6 +1,6 @@
 -- A graph text of a good graph that fits is taken, and read as just that graph.
 use Rattle.std.proofs.Common.{◌≡◌, ℕ, ◌+◌, ◌^◌, ◌≤◌, ltb, List, [], ◌∷◌, ◌++◌, length, Ok, Err, Result, sym, ap, ◌∙◌, subst, arith}
-use Rattle.std.specs.List.{flat_map, AllByRecursion as All}
+use Rattle.std.specs.List.{flat_map, AllByRecursion}
 use Rattle.std.proofs.lemmas.List.{append_assoc, append-nil, length-append, length_push}
 use Rattle.std.proofs.lemmas.Bool.{cond-false, le-ltb}
 use Rattle.graphs.specs.declared.Tie.{Tie}
@@ -39,7 +39,7 @@ module _ {L : Type 0} (form : Form L) (faith : Faithful form) (room : Counts) (n
         | Err e ↦ record { state = s; answer = Err (InLine (record { text = number; line = k; fault = e })) }
       ]) (line_in form faith room s.stage (length s.labels) s.ties r w a)
 
-  vertices_on : (ls before : List L) (k : ℕ) (rest : List ℕ) → All (GoodLabel form) ls → length before + length ls ≤ room.vertices → length before + length ls ≤ 10 ^ 9
+  vertices_on : (ls before : List L) (k : ℕ) (rest : List ℕ) → AllByRecursion (GoodLabel form) ls → length before + length ls ≤ room.vertices → length before + length ls ≤ 10 ^ 9
       → (j : ℕ) × (on (at Vertices before []) k (flat_map (vertex_text form) ls ++ rest) ≡ on (at Vertices (before ++ ls) []) j rest)
   vertices_on [] before k rest g h w = (k, ap (λ xs. on (at Vertices xs []) k rest) (sym (append-nil before)))
   vertices_on (l ∷ ls) before k rest g h w =
@@ -69,7 +69,7 @@ module _ {L : Type 0} (form : Form L) (faith : Faithful form) (room : Counts) (n
         ∙ ap (λ xs. on (at last ls xs) j rest) (append_assoc before (t ∷ []) ts),
   )
 
-  ties_on : (ts before : List (Tie L)) (stage : Stage) (ls : List L) (k : ℕ) (rest : List ℕ) → InGraph stage → All (GoodTie form (length ls)) ts
+  ties_on : (ts before : List (Tie L)) (stage : Stage) (ls : List L) (k : ℕ) (rest : List ℕ) → InGraph stage → AllByRecursion (GoodTie form (length ls)) ts
       → Different (before ++ ts) → length before + length ts ≤ room.ties → length ls ≤ 10 ^ 9 → TiesOn stage ls before ts k rest
   ties_on [] before stage ls k rest i g d h w = (stage, k, i, ap (λ xs. on (at stage ls xs) k rest) (sym (append-nil before)))
   ties_on (t ∷ ts) before stage ls k rest i g d h w =
@@ -82,7 +82,7 @@ module _ {L : Type 0} (form : Form L) (faith : Faithful form) (room : Counts) (n
       → on (at stage ls ts) k (line_text 101 []) ≡ record { state = at Closed ls ts; answer = Ok (record { vertices = length ls; ties = length ts }) }
   end_on stage ls ts k i w = step (at stage ls ts) k End [] w i
 
-  graph_on : (ls : List L) (ts : List (Tie L)) → All (GoodLabel form) ls → All (GoodTie form (length ls)) ts → Different ts
+  graph_on : (ls : List L) (ts : List (Tie L)) → AllByRecursion (GoodLabel form) ls → AllByRecursion (GoodTie form (length ls)) ts → Different ts
       → length ls ≤ room.vertices → length ts ≤ room.ties → length ls ≤ 10 ^ 9
       → on start 1 (graph_text form ls ts) ≡ record { state = at Closed ls ts; answer = Ok (record { vertices = length ls; ties = length ts }) }
   graph_on ls ts gl gt d hl ht w =

@@ -1,6 +1,6 @@
 -- How a graph is written as a graph text, and what makes a graph good.
 use Rattle.std.specs.Prelude.{◌≡◌, ℕ, ◌<◌, ◌≤◌, Bool, true, false, List, [], ◌∷◌, ◌++◌, length, IfSome}
-use Rattle.std.specs.List.{flat_map, AllByRecursion as All}
+use Rattle.std.specs.List.{flat_map, AllByRecursion}
 use Rattle.graphs.specs.declared.Tie.{Tie}
 use Rattle.fields.specs.Lines.{line_text}
 use Rattle.grammar.specs.declared.records.Counts.{Counts}
@@ -37,8 +37,8 @@ Different (t ∷ ts) = (has_pair ts t.from t.to ≡ false) × Different ts
 
 -- vertex labels and ties that keep the rules of a graph
 pub record GoodGraph {L : Type 0} (form : Form L) (ls : List L) (ts : List (Tie L)) : Type 0 where
-  pub labels : All (GoodLabel form) ls
-  pub ties : All (GoodTie form (length ls)) ts
+  pub labels : AllByRecursion (GoodLabel form) ls
+  pub ties : AllByRecursion (GoodTie form (length ls)) ts
   pub different : Different ts
 
 -- the text is the graph text of a good graph that fits the lists

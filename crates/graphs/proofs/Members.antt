@@ -2,7 +2,7 @@
 use Rattle.std.proofs.Common.{◌≡◌, ℕ, zero, suc, ◌+◌, ◌<◌, ◌≤◌, Bool, true, not, eqb, ◌⊎◌, List, [], ◌∷◌, ◌++◌, map, length, get_or, filter, sym, refl, ap, ◌∙◌, subst, inl, inr, ⊎_elim, arith}
 use Rattle.std.proofs.ByRecursion.{All-append, All-get_or, All-from_get_or, all_kept_by, All-weaker, kept_by_passes}
 use Rattle.std.proofs.lemmas.Bool.{cond-true, cond-false, cond_both, cases_eq, eq-eqb, ne_eqb, eqb-false, not_from_true, not_from_false, not-true}
-use Rattle.std.specs.List.{range_with_len, ContainsAt as Has, flat_map, AllByRecursion as All}
+use Rattle.std.specs.List.{range_with_len, ContainsAt, flat_map, AllByRecursion}
 
 abbrev pub In : {X : Type 0} → X → List X → Type 0
 In x [] = ⊥
@@ -11,10 +11,10 @@ In x (y ∷ ys) = (y ≡ x) ⊎ In x ys
 -- each entry stands in the relation to every later one
 abbrev pub Pairwise : {X : Type 0} → (X → X → Type 0) → List X → Type 0
 Pairwise R [] = Unit {0}
-Pairwise R (x ∷ xs) = All (R x) xs × Pairwise R xs
+Pairwise R (x ∷ xs) = AllByRecursion (R x) xs × Pairwise R xs
 
 module _ {X : Type 0} where
-  pub has_from_in : (x : X) (xs : List X) → In x xs → Has xs x
+  pub has_from_in : (x : X) (xs : List X) → In x xs → ContainsAt xs x
   has_from_in x [] i = absurd i
   has_from_in x (y ∷ ys) (inl e) = (0, omega arith, λ d. e)
   has_from_in x (y ∷ ys) (inr i) = let h = has_from_in x ys i in (suc h.0, omega arith, h.2)
@@ -24,15 +24,15 @@ module _ {X : Type 0} where
   in_get_d (x ∷ xs) zero d h = inl refl
   in_get_d (x ∷ xs) (suc i) d h = inr (in_get_d xs i d (omega arith))
 
-  pub in_from_has : (x d : X) (xs : List X) → Has xs x → In x xs
+  pub in_from_has : (x d : X) (xs : List X) → ContainsAt xs x → In x xs
   in_from_has x d xs h = subst (λ y. In y xs) (h.2 d) (in_get_d xs h.0 d h.1)
 
-  pub all_in : (P : X → Type 0) (x : X) (xs : List X) → All P xs → In x xs → P x
+  pub all_in : (P : X → Type 0) (x : X) (xs : List X) → AllByRecursion P xs → In x xs → P x
   all_in P x [] h i = absurd i
   all_in P x (y ∷ ys) h (inl e) = subst P e h.0
   all_in P x (y ∷ ys) h (inr i) = all_in P x ys h.1 i
 
-  pub all_from_in : (P : X → Type 0) (xs : List X) → ((x : X) → In x xs → P x) → All P xs
+  pub all_from_in : (P : X → Type 0) (xs : List X) → ((x : X) → In x xs → P x) → AllByRecursion P xs
   all_from_in P [] h = tt
   all_from_in P (x ∷ xs) h = (h x (inl refl), all_from_in P xs (λ y i. h y (inr i)))
 
@@ -51,12 +51,12 @@ module _ {X : Type 0} where
   in_kept test x (y ∷ ys) (inr i) t =
       cond_both (test y) (y ∷ filter test ys) (filter test ys) (In x) (λ _. inr (in_kept test x ys i t)) (λ _. in_kept test x ys i t)
 
-  pub kept_all : (test : X → Bool) (xs : List X) → All (λ x. test x ≡ true) xs → filter test xs ≡ xs
+  pub kept_all : (test : X → Bool) (xs : List X) → AllByRecursion (λ x. test x ≡ true) xs → filter test xs ≡ xs
   kept_all test [] h = refl
   kept_all test (x ∷ xs) h = cond-true _ _ _ h.0 ∙ ap (λ l. x ∷ l) (kept_all test xs h.1)
 
   module _ (R : X → X → Type 0) where
-    pub pairwise_append : (xs ys : List X) → Pairwise R xs → Pairwise R ys → All (λ x. All (R x) ys) xs → Pairwise R (xs ++ ys)
+    pub pairwise_append : (xs ys : List X) → Pairwise R xs → Pairwise R ys → AllByRecursion (λ x. AllByRecursion (R x) ys) xs → Pairwise R (xs ++ ys)
     pairwise_append [] ys h k l = k
     pairwise_append (x ∷ xs) ys h k l = (All-append (R x) xs ys h.0 l.0, pairwise_append xs ys h.1 k l.1)
 
@@ -98,7 +98,7 @@ in_counting a (suc n) v h k = ⊎_elim (λ e. inl e) (λ ne. inr (in_counting (a
 abbrev pub Differ : List ℕ → Type 0
 Differ = Pairwise (λ x y. x ≡ y → ⊥)
 
-pub cases_in : (v : ℕ) (xs : List ℕ) → In v xs ⊎ All (λ x. v ≡ x → ⊥) xs
+pub cases_in : (v : ℕ) (xs : List ℕ) → In v xs ⊎ AllByRecursion (λ x. v ≡ x → ⊥) xs
 cases_in v [] = inr tt
 cases_in v (x ∷ xs) =
     ⊎_elim (λ e. inl (inl e)) (λ ne. ⊎_elim (λ i. inl (inr i)) (λ no. inr ((λ e. ne (sym e)), no)) (cases_in v xs)) (cases_eq x v)
@@ -119,19 +119,19 @@ without_one n (x ∷ xs) h =
     omega (arith, ap length out, without_one n xs h.1))
     (cases_eq x n)
 
-pub at_most : (n : ℕ) (xs : List ℕ) → Differ xs → All (λ x. x < n) xs → length xs ≤ n
+pub at_most : (n : ℕ) (xs : List ℕ) → Differ xs → AllByRecursion (λ x. x < n) xs → length xs ≤ n
 at_most zero [] h k = omega arith
 at_most zero (x ∷ xs) h k = omega (arith, k.0)
 at_most (suc n) xs h k =
     let ys = filter (is_not n) xs in
-    let low : All (λ x. x < n) ys =
+    let low : AllByRecursion (λ x. x < n) ys =
     all_from_in (λ x. x < n) ys (λ x i.
     let under = all_in (λ y. y < suc n) x ys (all_kept_by (is_not n) (λ y. y < suc n) xs k) i in
     let other = eqb-false x n (not-true (eqb x n) (all_in (λ y. is_not n y ≡ true) x ys (kept_by_passes (is_not n) xs) i)) in
     omega arith) in
     omega (arith, at_most n ys (pairwise_kept (λ x y. x ≡ y → ⊥) (is_not n) xs h) low, without_one n xs h)
 
-pub every_one : (n : ℕ) (xs : List ℕ) → Differ xs → All (λ x. x < n) xs → length xs ≡ n → (v : ℕ) → v < n → In v xs
+pub every_one : (n : ℕ) (xs : List ℕ) → Differ xs → AllByRecursion (λ x. x < n) xs → length xs ≡ n → (v : ℕ) → v < n → In v xs
 every_one n xs h k l v m =
     ⊎_elim (λ i. i) (λ no. absurd (let many : suc (length xs) ≤ n = at_most n (v ∷ xs) (no, h) (m, k) in let none : ⊥ = omega arith in none)) (cases_in v xs)
 

@@ -1,6 +1,6 @@
 -- The graphs of good pieces are sound.
 use Rattle.std.proofs.Common.{◌≡◌, ℕ, zero, suc, ◌+◌, ◌-◌, ◌<◌, ◌≤◌, true, false, cond, ◌&&◌, eqb, ltb, leb, List, [], ◌∷◌, ◌++◌, length, get_or, is_some, Some, None, Option, refl, ◌∙◌, ⊎_elim, arith}
-use Rattle.std.specs.List.{AllByRecursion as All}
+use Rattle.std.specs.List.{AllByRecursion}
 use Rattle.std.proofs.ByRecursion.{All-push}
 use Rattle.std.proofs.lemmas.Bool.{and_parts, cases_Bool, cond_both, cond-true, cond-false, ltb-true, ltb-false, le-ltb, ne_eqb, false≢true}
 use Rattle.graphs.specs.declared.Code.{Code}
@@ -94,12 +94,12 @@ module _ (a b : Graph Code) (ts : List (Tie Code)) (sa : Sound a) (sb : Sound b)
   pub union_sound : Sound (union a b ts)
   union_sound = record { labelled = labelled; bare = bare; inside = inside; apart = apart }
 
-sound_at : (gs : List (Graph Code)) → All Sound gs → (k : ℕ) → Sound (get_or gs k no_graph)
+sound_at : (gs : List (Graph Code)) → AllByRecursion Sound gs → (k : ℕ) → Sound (get_or gs k no_graph)
 sound_at [] h k = no_graph_sound
 sound_at (g ∷ gs) h zero = h.0
 sound_at (g ∷ gs) h (suc k) = sound_at gs h.1 k
 
-piece_sound : (gs : List (Graph Code)) (p : Piece) → All Sound gs → good_piece gs p ≡ true → Sound (graph_from gs p)
+piece_sound : (gs : List (Graph Code)) (p : Piece) → AllByRecursion Sound gs → good_piece gs p ≡ true → Sound (graph_from gs p)
 piece_sound gs (vertex c) h e = single_sound c
 piece_sound gs (join a b ts) h e =
     let first : Graph Code = get_or gs a no_graph in
@@ -109,7 +109,7 @@ piece_sound gs (join a b ts) h e =
     let r = and_parts (every (crosses first.size (first.size + second.size)) ts) (every (λ t. good_code t.label) ts && ascend ts) q.1 in
     union_sound first second ts (sound_at gs h a) (sound_at gs h b) r.0
 
-sound_after : (gs : List (Graph Code)) (ps : List Piece) → All Sound gs → good_pieces gs ps ≡ true → All Sound (graphs_after gs ps)
+sound_after : (gs : List (Graph Code)) (ps : List Piece) → AllByRecursion Sound gs → good_pieces gs ps ≡ true → AllByRecursion Sound (graphs_after gs ps)
 sound_after gs [] h e = h
 sound_after gs (p ∷ ps) h e =
     let g : Graph Code = graph_from gs p in

@@ -1,6 +1,7 @@
 // The label types of graph texts: codes and pay labels.
 
 ghost use Rattle.std.specs.Prelude.{◌≡◌};
+ghost use Rattle.grammar.proofs.Forms.{code_faithful, pay_faithful};
 ghost use Rattle.grammar.specs.Labels.{Form, Faithful, code_form, pay_form};
 ghost use Rattle.std.proofs.Common.{rules};
 
@@ -36,13 +37,14 @@ pub trait Label: Copy {
     fn make(first: u32, second: u32) -> Self
         ensures { result ≡ form.make first second };
 
+    // A label and its numbers say the same, whatever the type.
     ghost faithful: { Faithful form };
 }
 
 impl Label for Code {
     ghost form = { code_form };
 
-    ghost faithful = { Prim.search rules };
+    ghost faithful = { code_faithful };
 
     fn first() -> Range {
         CODES
@@ -60,7 +62,7 @@ impl Label for Code {
 impl Label for Pay {
     ghost form = { pay_form };
 
-    ghost faithful = { Prim.search rules };
+    ghost faithful = { pay_faithful };
 
     fn first() -> Range {
         CODES
