@@ -1,4 +1,5 @@
 // Tests of cutting, filling and writing beside a simple matcher that tries every row, and the books and samples that they use.
+#![tactic(auto)]
 
 pub mod book;
 #[cfg(test)]

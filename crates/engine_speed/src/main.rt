@@ -1,4 +1,5 @@
 // Measures the engine: a dozen related patterns are cut, and their rows listed over sheets of growing size at constant degree. `engine_speed VERTICES..`. What is found and how often the sheet was asked goes to standard output, and times to standard error.
+#![tactic(auto)]
 
 mod counting;
 mod models;

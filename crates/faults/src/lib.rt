@@ -1,4 +1,5 @@
 // What can be wrong with a field, a line and a text. A definition gives each case its number.
+#![tactic(auto)]
 
 ghost use Rattle.std.specs.Prelude.{◌≡◌};
 ghost use Rattle.faults.specs.Refusals.{trouble_number, line_fault_number, field_of, refusal_of};

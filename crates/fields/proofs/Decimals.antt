@@ -1,9 +1,9 @@
 -- The laws of numerals: how they go on, and that a field is a number exactly where it is the numeral of one below 10 ^ 9.
-use Rattle.std.proofs.Common.{◌≡◌, ℕ, ◌+◌, ◌-◌, ◌*◌, ◌/◌, ◌%◌, ◌^◌, ◌<◌, ◌≤◌, Bool, true, false, cond, not, ◌&&◌, ◌||◌, eqb, ltb, leb, ◌⊎◌, List, [], ◌∷◌, ◌++◌, length, get_or, Some, None, decimal, Option, sym, refl, ap, ◌∙◌, inl, inr, ⊎_elim, arith, rules, MatchOption}
+use Rattle.std.proofs.Common.{◌≡◌, ℕ, ◌+◌, ◌-◌, ◌*◌, ◌/◌, ◌%◌, ◌^◌, ◌<◌, ◌≤◌, true, not, ◌||◌, eqb, ltb, leb, List, [], ◌∷◌, ◌++◌, length, get_or, Some, None, decimal, Option, sym, refl, ap, ◌∙◌, ⊎_elim, arith, MatchOption}
 use Rattle.std.specs.Str.{all_ascii_digits}
 use Rattle.std.proofs.lemmas.Str.Parse.{IsNumeralModel, FoldsDigits, numerals_by_fold, tells_all_ascii_digits, digits_value_short}
 use Rattle.std.proofs.lemmas.Fmt.{decimal-digits_value, digits_decimal, digits_value-decimal, length-decimal-le, decimal_nonempty, first_decimal, decimal_digit, decimal_step, AppendsLastDigit, decimal_from_appends}
-use Rattle.std.proofs.lemmas.Bool.{cond-true, cond-false, cond_both, and_parts, and_from, or_cases, eqb-true, eqb-false, not-true, ltb-true, leb-true, lt-ltb, le-ltb, le-leb, eq-eqb, ne_eqb, or_left, or_right, not_from_false, cases_Bool, cases_eq}
+use Rattle.std.proofs.lemmas.Bool.{cond-true, cond-false, and_parts, and_from, or_cases, eqb-true, eqb-false, not-true, ltb-true, leb-true, lt-ltb, le-ltb, le-leb, eq-eqb, ne_eqb, or_left, or_right, not_from_false, cases_Bool, cases_eq}
 use Rattle.fields.specs.Numbers.{digits_within, numeral, is_digit, read_on, shapely, number_of}
 
 -- a numeral is what the library calls a decimal

@@ -1,4 +1,5 @@
 // The smallest readings and writings of a text: pieces between separators, numbers, and lines of numbers.
+#![tactic(auto)]
 
 mod numbers;
 mod pieces;

@@ -1,17 +1,15 @@
 -- Worked examples on the definitions: they compute.
-use Rattle.std.proofs.Common.{◌≡◌, ℕ, List, [], ◌∷◌, ◌++◌, Ok, Err, codes, Result, refl}
-use Rattle.graphs.specs.declared.Code.{Code}
+use Rattle.std.proofs.Common.{◌≡◌, ℕ, List, [], ◌∷◌, Ok, Err, codes, Result, refl}
 use Rattle.graphs.specs.declared.Pay.{Pay}
 use Rattle.graphs.specs.declared.Tie.{Tie}
 use Rattle.fields.specs.Numbers.{numeral}
 use Rattle.grammar.specs.declared.records.Counts.{Counts}
 use Rattle.faults.specs.declared.Refusal.{Refusal}
-use Rattle.faults.specs.declared.TextFault.{TextFault}
 use Rattle.faults.specs.Refusals.{refusal_of}
 use Rattle.grammar.specs.Labels.{code_form, pay_form}
-use Rattle.grammar.specs.Reading.{reading, Outcome}
+use Rattle.grammar.specs.Reading.{reading}
 use Rattle.grammar.specs.Writing.{graph_text}
-use Rattle.grammar.specs.Pointing.{pointed, line_at}
+use Rattle.grammar.specs.Pointing.{pointed}
 
 abbrev room : Counts
 room = record { vertices = 3; ties = 1 }

@@ -1,5 +1,5 @@
 -- What a label type states: its one or two fields, the numbers that each allows and the label that they make.
-use Rattle.std.specs.Prelude.{◌≡◌, ℕ, ◌^◌, ◌≤◌, Bool, true, ◌&&◌, List, [], ◌∷◌, IfSome, Some, None, Option, OnSome, nat_le, nat_lt}
+use Rattle.std.specs.Prelude.{◌≡◌, ℕ, ◌^◌, ◌≤◌, Bool, ◌&&◌, List, [], ◌∷◌, IfSome, Some, None, Option, OnSome, nat_le, nat_lt}
 use Rattle.graphs.specs.declared.Code.{Code}
 use Rattle.graphs.specs.declared.Pay.{Pay}
 use Rattle.grammar.specs.declared.records.Range.{Range}

@@ -1,5 +1,5 @@
 -- The bytes that a fault speaks of, and that they are to blame.
-use Rattle.std.specs.Prelude.{◌≡◌, ℕ, ◌-◌, ◌<◌, ◌≤◌, true, false, cond, List, [], ◌∷◌, length, is_some, Some, None, Ok, Err, Result, ◌==◌, slice_index_or}
+use Rattle.std.specs.Prelude.{◌≡◌, ℕ, ◌-◌, ◌<◌, ◌≤◌, true, false, cond, List, [], length, is_some, Some, None, Ok, Err, Result, ◌==◌, slice_index_or}
 use Rattle.fields.specs.Numbers.{number_of}
 use Rattle.fields.specs.Split.{split}
 use Rattle.faults.specs.declared.FieldTrouble.{FieldTrouble}
@@ -11,7 +11,7 @@ use Rattle.faults.specs.declared.TextFault.TheVariants.{TooLong, InLine}
 use Rattle.grammar.specs.declared.records.Counts.{Counts}
 use Rattle.grammar.specs.Labels.{Form}
 use Rattle.grammar.specs.Reading.{State, record_of, is_empty, most_bytes}
-use Rattle.faults.specs.Refusals.{refusal_of, field_of}
+use Rattle.faults.specs.Refusals.{refusal_of}
 
 -- piece k of a text, counted from 1; empty where there is none
 abbrev pub piece_at : ℕ → ℕ → List ℕ → List ℕ

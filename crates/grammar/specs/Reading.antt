@@ -1,5 +1,5 @@
 -- What a graph text reads as: the labels and ties of its lines up to the first fault, and the answer.
-use Rattle.std.specs.Prelude.{◌≡◌, ℕ, suc, ◌+◌, Bool, true, false, cond, ◌&&◌, ◌||◌, List, [], ◌∷◌, ◌++◌, length, Some, None, Ok, Err, Option, Result, ◌==◌, nat_lt}
+use Rattle.std.specs.Prelude.{ℕ, ◌+◌, Bool, true, false, cond, ◌&&◌, ◌||◌, List, [], ◌∷◌, ◌++◌, length, Some, None, Ok, Err, Option, Result, ◌==◌, nat_lt}
 use Rattle.graphs.specs.declared.Tie.{Tie}
 use Rattle.fields.specs.Numbers.{number_of}
 use Rattle.fields.specs.Split.{split, ended}

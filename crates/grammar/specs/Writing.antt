@@ -1,5 +1,5 @@
 -- How a graph is written as a graph text, and what makes a graph good.
-use Rattle.std.specs.Prelude.{◌≡◌, ℕ, ◌<◌, ◌≤◌, Bool, true, false, List, [], ◌∷◌, ◌++◌, length, IfSome}
+use Rattle.std.specs.Prelude.{◌≡◌, ℕ, ◌<◌, ◌≤◌, true, false, List, [], ◌∷◌, ◌++◌, length, IfSome}
 use Rattle.std.specs.List.{flat_map, AllByRecursion}
 use Rattle.graphs.specs.declared.Tie.{Tie}
 use Rattle.fields.specs.Lines.{line_text}

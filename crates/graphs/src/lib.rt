@@ -1,4 +1,5 @@
 // The plain types of a graph: labels and ties.
+#![tactic(auto)]
 
 pub mod laws;
 

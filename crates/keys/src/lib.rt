@@ -1,4 +1,5 @@
 // Keys: whether a code and a label fit.
+#![tactic(auto)]
 
 ghost use Rattle.std.specs.Prelude.{◌≡◌, Bool};
 ghost use Rattle.graphs.specs.declared.Code.{Code as TheCode};

@@ -1,4 +1,5 @@
 // The plain types of a book's answers: why a call refuses. The definitions and laws of pieces, cutting, ledger and sweeping stand in specs/ and proofs/.
+#![tactic(auto)]
 
 pub mod laws;
 pub mod tables;

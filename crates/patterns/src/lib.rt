@@ -1,4 +1,5 @@
 // Whether codes and ties make a pattern that can be entered.
+#![tactic(auto)]
 
 ghost use Rattle.std.specs.Prelude.{◌≡◌, not, drop};
 ghost use Rattle.network.specs.Ledger.{good_ends, can_enter};

@@ -1,4 +1,5 @@
 // Judges sheets and prints what it finds: `proofread FILE..`, or `sheet.tsv` where no file is named.
+#![tactic(auto)]
 
 use std::fs::File;
 use std::io::Read;

@@ -1,4 +1,5 @@
 // Sheets and keys tried on examples.
+#![tactic(auto)]
 
 #[cfg(test)]
 mod keys_answer;

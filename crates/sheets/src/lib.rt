@@ -1,4 +1,5 @@
 // Sheets: graphs that can be asked.
+#![tactic(auto)]
 
 pub mod part;
 pub mod refusal;

@@ -1,4 +1,5 @@
 // Graph texts tried on examples.
+#![tactic(auto)]
 
 #[cfg(test)]
 mod lists_filled;

@@ -21,22 +21,22 @@ fn fault_at(text: usize, line: usize, field: usize) -> TextFault {
 fn fields_of_either_text(rt: HostRuntime) {
     let first = b"g\t1\nn\tone\n";
     let second = b"g\t2\nn\ttwo\t0\nlast";
-    assert_eq!(rt; point(first, second, fault_at(1, 2, 2)), b"one");
-    assert_eq!(rt; point(first, second, fault_at(2, 2, 2)), b"two");
-    assert_eq!(rt; point(first, second, fault_at(3, 2, 2)), b"one");
-    assert_eq!(rt; point(first, second, fault_at(0, 2, 1)), b"n");
-    assert_eq!(rt; point(first, second, fault_at(2, 3, 0)), b"last");
-    assert_eq!(rt; point(first, second, fault_at(1, 1, 0)), b"g\t1");
+    assert_eq!(rt; point(first, second, fault_at(1, 2, 2)), b"one".as_slice());
+    assert_eq!(rt; point(first, second, fault_at(2, 2, 2)), b"two".as_slice());
+    assert_eq!(rt; point(first, second, fault_at(3, 2, 2)), b"one".as_slice());
+    assert_eq!(rt; point(first, second, fault_at(0, 2, 1)), b"n".as_slice());
+    assert_eq!(rt; point(first, second, fault_at(2, 3, 0)), b"last".as_slice());
+    assert_eq!(rt; point(first, second, fault_at(1, 1, 0)), b"g\t1".as_slice());
 }
 
 #[test]
 fn what_is_missing(rt: HostRuntime) {
     let text = b"g\t1\nn\t7\n";
-    assert_eq!(rt; point(text, text, fault_at(1, 9, 1)), b"");
-    assert_eq!(rt; point(text, text, fault_at(1, 0, 1)), b"");
-    assert_eq!(rt; point(text, text, fault_at(1, 2, 3)), b"");
-    assert_eq!(rt; point(text, text, fault_at(1, 3, 0)), b"");
-    assert_eq!(rt; point(text, text, TextFault::TooLong(1)), b"");
+    assert_eq!(rt; point(text, text, fault_at(1, 9, 1)), b"".as_slice());
+    assert_eq!(rt; point(text, text, fault_at(1, 0, 1)), b"".as_slice());
+    assert_eq!(rt; point(text, text, fault_at(1, 2, 3)), b"".as_slice());
+    assert_eq!(rt; point(text, text, fault_at(1, 3, 0)), b"".as_slice());
+    assert_eq!(rt; point(text, text, TextFault::TooLong(1)), b"".as_slice());
 }
 
 #[test]
@@ -45,7 +45,7 @@ fn a_fault_of_the_reader(rt: HostRuntime) -> Result<(), Fail> {
     match read_pay(text) {
         Ok(_) => Err(Fail::new("the text was taken")),
         Err(fault) => {
-            assert_eq!(rt; point(b"", text, fault), b"73x");
+            assert_eq!(rt; point(b"", text, fault), b"73x".as_slice());
             Ok(())
         },
     }
@@ -61,9 +61,9 @@ fn refusal_lines(rt: HostRuntime) {
     };
     let mut buffer = [b'.'; 20];
     assert_eq!(rt; write_refusal(refusal, &mut buffer), Ok(16));
-    assert_eq!(rt; &buffer[0..20], b"r\t5\t2\t1000001\t3\n....");
+    assert_eq!(rt; &buffer[0..20], b"r\t5\t2\t1000001\t3\n....".as_slice());
     let mut short = [b'.'; 15];
     assert_eq!(rt; write_refusal(refusal, &mut short), Err(TooShort));
-    assert_eq!(rt; &short[0..15], b"...............");
+    assert_eq!(rt; &short[0..15], b"...............".as_slice());
     assert_eq!(rt; TooShort.number(), 15);
 }

@@ -1,4 +1,5 @@
 // Measures how long the graph reader takes for the longest texts: what was read goes to standard output, and the time to standard error.
+#![tactic(auto)]
 
 use faults::TextFault;
 use grammar::Counts;

@@ -1,12 +1,12 @@
 -- What the reader answers and leaves, from what the text reads as: it takes just the graph texts, and blames the faulty line.
-use Rattle.std.proofs.Common.{◌≡◌, ℕ, List, length, IfOk, Ok, Err, Result, sym, ap, ◌∙◌, subst}
+use Rattle.std.proofs.Common.{ℕ, List, IfOk, Ok, Err, Result, sym, ap, ◌∙◌, subst}
 use Rattle.graphs.specs.declared.Tie.{Tie}
 use Rattle.faults.specs.declared.TextFault.{TextFault}
 use Rattle.fields.specs.Lines.{overlaid}
 use Rattle.grammar.specs.declared.records.Counts.{Counts}
 use Rattle.grammar.specs.Labels.{Form, Faithful}
 use Rattle.grammar.specs.Pointing.{Blamed}
-use Rattle.grammar.specs.Reading.{reading, State, Outcome}
+use Rattle.grammar.specs.Reading.{reading, Outcome}
 use Rattle.grammar.specs.Writing.{GraphText}
 use Rattle.grammar.proofs.Taken as taking
 use Rattle.grammar.proofs.Read as reads

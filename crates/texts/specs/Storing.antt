@@ -1,5 +1,5 @@
 -- What the reader's lists hold after a line is stored.
-use Rattle.std.specs.Prelude.{◌≡◌, ℕ, ◌+◌, ◌<◌, List, length, Ok, Err, Result, slice_set}
+use Rattle.std.specs.Prelude.{ℕ, ◌+◌, ◌<◌, List, Ok, Err, Result, slice_set}
 use Rattle.graphs.specs.declared.Tie.{Tie}
 use Rattle.faults.specs.declared.LineFault.{LineFault}
 use Rattle.faults.specs.declared.FaultyLine.{FaultyLine}
@@ -7,7 +7,7 @@ use Rattle.grammar.specs.declared.records.Counts.{Counts}
 use Rattle.grammar.specs.declared.records.Record.{Record}
 use Rattle.grammar.specs.declared.records.Record.TheVariants.{Graph, Vertex, Tied, End}
 use Rattle.grammar.specs.declared.records.Stage.{Stage}
-use Rattle.grammar.specs.declared.records.Stage.TheVariants.{Opening, Vertices, Ties, Closed}
+use Rattle.grammar.specs.declared.records.Stage.TheVariants.{Vertices, Ties, Closed}
 
 -- a line's fault with the text's number and its own
 abbrev pub placed_at : {X : Type 0} → ℕ → ℕ → Result X LineFault → Result X FaultyLine

@@ -1,4 +1,5 @@
 // Reads graph texts for every label type, points at what is faulty in one, and writes refusal lines.
+#![tactic(auto)]
 
 mod labels;
 mod lines;

@@ -1,12 +1,11 @@
 -- What is known of a sheet that is judged good: its counts are those of what was read, which stands at the start of the list.
-use Rattle.std.proofs.Common.{◌≡◌, ℕ, ◌≤◌, true, false, ltb, List, ◌++◌, length, take, drop, Ok, Err, Result, sym, refl, ap, ◌∙◌, ⊎_elim, arith}
+use Rattle.std.proofs.Common.{◌≡◌, ℕ, ◌≤◌, ltb, List, length, take, drop, Ok, Err, Result, sym, ap, ◌∙◌, ⊎_elim, arith}
 use Rattle.std.proofs.lemmas.List.{take_at, length-append}
 use Rattle.std.proofs.lemmas.Bool.{cond-true, cond-false, cases_Bool}
 use Rattle.graphs.specs.declared.Pay.{Pay}
 use Rattle.graphs.specs.declared.Tie.{Tie}
 use Rattle.faults.specs.declared.TextFault.{TextFault}
 use Rattle.faults.specs.declared.TextFault.TheVariants.{TooLong}
-use Rattle.fields.specs.Lines.{overlaid}
 use Rattle.grammar.specs.declared.records.Counts.{Counts}
 use Rattle.grammar.specs.Labels.{pay_form}
 use Rattle.grammar.specs.Reading.{Outcome, reading, counted, start}

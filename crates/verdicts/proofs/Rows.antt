@@ -1,5 +1,5 @@
 -- The rows of kinds, one after another.
-use Rattle.std.proofs.Common.{◌≡◌, ℕ, zero, suc, ◌+◌, ◌<◌, List, [], ◌∷◌, ◌++◌, sym, refl, ap, ◌∙◌, add-one, arith}
+use Rattle.std.proofs.Common.{◌≡◌, ℕ, zero, suc, ◌+◌, ◌<◌, List, [], ◌++◌, refl, ap, add-one, arith}
 use Rattle.verdicts.specs.Wording.{kind_text, kind_rows}
 
 pub rows_none : (name : List ℕ) (f : ℕ → ℕ) → kind_rows name f 0 ≡ []

@@ -1,5 +1,5 @@
 -- What judging a sheet answers and leaves.
-use Rattle.std.specs.Prelude.{◌≡◌, ℕ, cond, List, length, Ok, Err, Result, nat_lt}
+use Rattle.std.specs.Prelude.{◌≡◌, ℕ, cond, List, length, Err, Result, nat_lt}
 use Rattle.graphs.specs.declared.Pay.{Pay}
 use Rattle.graphs.specs.declared.Tie.{Tie}
 use Rattle.faults.specs.declared.TextFault.{TextFault}

@@ -1,5 +1,5 @@
 -- The lines that are printed for a sheet. A name is shown already, and `decimal` is how the library prints a number.
-use Rattle.std.specs.Prelude.{ℕ, zero, suc, cond, List, [], ◌∷◌, ◌++◌, Ok, Err, codes, decimal, Result, ◌==◌, nat_lt}
+use Rattle.std.specs.Prelude.{ℕ, zero, suc, cond, List, [], ◌++◌, Ok, Err, codes, decimal, Result, ◌==◌, nat_lt}
 use Rattle.graphs.specs.declared.Pay.{Pay}
 use Rattle.faults.specs.declared.FieldTrouble.{FieldTrouble}
 use Rattle.faults.specs.declared.FieldTrouble.TheVariants.{NoNumber, OutOfRange, LabelCount, MissingVertex}

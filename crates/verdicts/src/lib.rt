@@ -1,4 +1,5 @@
 // The verdict on a sheet: whether it is good, how much of what it has, or exactly what is wrong with it.
+#![tactic(auto)]
 
 mod judging;
 mod showing;

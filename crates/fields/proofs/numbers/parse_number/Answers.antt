@@ -1,6 +1,6 @@
-use Rattle.std.proofs.Common.{◌≡◌, sym, ◌∙◌}
+use Rattle.std.proofs.Common.{sym, ◌∙◌}
 use Rattle.std.proofs.lemmas.Bool.{cond-true, cond-false}
-use Rattle.fields.specs.Numbers.{number_of, shapely}
+use Rattle.fields.specs.Numbers.{shapely}
 use Rattle.fields.proofs.Decimals.{said}
 use Rattle.fields.proofs.numbers.parse_number.Goals as goal
 

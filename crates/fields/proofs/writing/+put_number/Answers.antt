@@ -1,4 +1,4 @@
-use Rattle.std.proofs.Common.{◌≡◌, ℕ, ◌+◌, ◌/◌, ◌%◌, ◌^◌, ◌<◌, ◌≤◌, List, [], ◌∷◌, ◌++◌, length, set, sym, refl, ap, ◌∙◌, arith}
+use Rattle.std.proofs.Common.{◌≡◌, ℕ, ◌+◌, ◌/◌, ◌%◌, ◌^◌, ◌<◌, ◌≤◌, List, [], length, set, sym, refl, ap, ◌∙◌, arith}
 use Rattle.fields.proofs.Decimals.{numeral_digit, numeral_step, length-numeral_le}
 use Rattle.std.proofs.lemmas.List.{length_push}
 use Rattle.fields.specs.Numbers.{numeral}

@@ -1,4 +1,4 @@
-use Rattle.std.proofs.Common.{◌≡◌, ◌+◌, leb, length, take, drop}
+use Rattle.std.proofs.Common.{◌≡◌, leb, length, drop}
 use Rattle.fields.specs.Lines.{numbers_text}
 use Rattle.fields.proofs.writing.numbers_fit.Given as goal
 

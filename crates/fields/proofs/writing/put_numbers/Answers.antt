@@ -1,6 +1,6 @@
-use Rattle.std.proofs.Common.{◌≡◌, ℕ, ◌+◌, ◌-◌, ◌<◌, ◌≤◌, List, [], ◌∷◌, ◌++◌, length, get_or, take, drop, set, sym, refl, ap, ◌∙◌, arith, rules}
+use Rattle.std.proofs.Common.{◌≡◌, ℕ, ◌+◌, ◌-◌, ◌<◌, List, [], ◌∷◌, ◌++◌, length, get_or, take, drop, set, sym, ap, ◌∙◌, arith, rules}
 use borrow.Rule.Slice.PartMut.{put_mid}
-use Rattle.std.proofs.lemmas.List.{at_drop_all, take_all, length-set, length-append, length_push, append_assoc}
+use Rattle.std.proofs.lemmas.List.{take_all, length-set, length-append, length_push, append_assoc}
 use Rattle.fields.specs.Numbers.{numeral}
 use Rattle.fields.specs.Lines.{numbers_text, overlaid}
 use Rattle.fields.proofs.Sizes.{size_more, text_more}

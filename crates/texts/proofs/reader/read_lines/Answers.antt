@@ -1,7 +1,5 @@
-use Rattle.std.proofs.Common.{◌≡◌, ℕ, ◌+◌, false, List, ◌∷◌, take, Ok, sym, ◌∙◌, subst}
+use Rattle.std.proofs.Common.{◌≡◌, ℕ, ◌+◌, false, List, sym, ◌∙◌, subst}
 use Rattle.fields.specs.Split.{left, given, ended}
-use Rattle.grammar.specs.Reading.{record_of}
-use Rattle.texts.specs.Graphs.{room_in}
 use Rattle.texts.proofs.Filling.{Filling, read_ok, room_for, turned}
 use Rattle.texts.proofs.reader.read_lines.Goals as goal
 
