@@ -19,13 +19,13 @@ module _ {X : Type 0} where
   has_from_in x (y ∷ ys) (inl e) = (0, omega arith, λ d. e)
   has_from_in x (y ∷ ys) (inr i) = let h = has_from_in x ys i in (suc h.0, omega arith, h.2)
 
-  pub in_get_d : (xs : List X) (i : ℕ) (d : X) → i < length xs → In (get_or xs i d) xs
-  in_get_d [] i d h = omega arith
-  in_get_d (x ∷ xs) zero d h = inl refl
-  in_get_d (x ∷ xs) (suc i) d h = inr (in_get_d xs i d (omega arith))
+  pub in_get_or : (xs : List X) (i : ℕ) (d : X) → i < length xs → In (get_or xs i d) xs
+  in_get_or [] i d h = omega arith
+  in_get_or (x ∷ xs) zero d h = inl refl
+  in_get_or (x ∷ xs) (suc i) d h = inr (in_get_or xs i d (omega arith))
 
   pub in_from_has : (x d : X) (xs : List X) → ContainsAt xs x → In x xs
-  in_from_has x d xs h = subst (λ y. In y xs) (h.2 d) (in_get_d xs h.0 d h.1)
+  in_from_has x d xs h = subst (λ y. In y xs) (h.2 d) (in_get_or xs h.0 d h.1)
 
   pub all_in : (P : X → Type 0) (x : X) (xs : List X) → AllByRecursion P xs → In x xs → P x
   all_in P x [] h i = absurd i

@@ -3,7 +3,6 @@
 ghost use Rattle.std.specs.Prelude.{◌≡◌};
 ghost use Rattle.grammar.proofs.Forms.{code_faithful, pay_faithful};
 ghost use Rattle.grammar.specs.Labels.{Form, Faithful, code_form, pay_form};
-ghost use Rattle.std.proofs.Common.{rules};
 
 use grammar::Range;
 use graphs::{Code, Pay};
