@@ -1,6 +1,9 @@
 // The plain types of a graph: labels and ties.
 #![tactic(auto)]
 
+ghost use Rattle.std.specs.Prelude.{◌≡◌};
+ghost use Rattle.graphs.specs.Tables.{runs};
+
 pub mod laws;
 
 // A code: in a pattern, what a vertex or a tie is. The rules allow 1 to 9,999; the type holds any number, so that a call can refuse a bad one.
@@ -22,4 +25,13 @@ pub struct Tie<L> {
     pub from: usize,
     pub to: usize,
     pub label: L,
+}
+
+impl<L> Tie<L> {
+    // Whether the tie runs from the one vertex to the other.
+    pub fn runs(&self, from: usize, to: usize) -> bool
+        ensures { result ≡ runs from to self.now }
+    {
+        self.from == from && self.to == to
+    }
 }
