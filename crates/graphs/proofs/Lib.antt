@@ -1,7 +1,6 @@
 pub mod Alike
 pub mod Every
 mod Examples
-pub mod Firsts
 pub mod Isomorphisms
 pub mod Members
 pub mod Nested

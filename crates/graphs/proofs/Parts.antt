@@ -99,23 +99,3 @@ module _ {L : Type 0} (g : Graph L) (ps : List ℕ) (r : Rising ps) (s : Sound g
     inside = ends;
     apart = alone;
   }
-
--- the part by the first n of an array, as code reads it
-module _ {L : Type 0} (g : Graph L) (xs : List ℕ) (n : ℕ) (fits : n ≤ length xs) where
-  picked_front : {A : Type 0} (v : ℕ) (f : ℕ → Option A) → v < n → picked (take n xs) v f ≡ f (get_or xs v 0)
-  picked_front v f h =
-      let l : length (take n xs) ≡ n = length-take-le n xs fits in
-      picked_in (take n xs) v f (omega arith) ∙ ap f (get_or-take n xs v 0 h)
-
-  pub label_front : (v : ℕ) → v < n → g.label (get_or xs v 0) ≡ (part_graph g (take n xs)).label v
-  label_front v h = sym (picked_front v g.label h)
-
-  pub tie_front : (u v : ℕ) → u < n → v < n → g.tie (get_or xs u 0) (get_or xs v 0) ≡ (part_graph g (take n xs)).tie u v
-  tie_front u v h k =
-      sym (picked_front u (λ a. picked (take n xs) v (λ b. g.tie a b)) h ∙ picked_front v (λ b. g.tie (get_or xs u 0) b) k)
-
-pub rising_front : (xs : List ℕ) (n : ℕ) → Ascends xs n → Rising (take n xs)
-rising_front xs n r i j h k =
-    let l : j < n = omega (arith, length-take n xs) in
-    let m : i < n = omega arith in
-    rw (get_or-take n xs i 0 m, get_or-take n xs j 0 l) (r i j h l)

@@ -1,5 +1,4 @@
 pub mod Alike
-pub mod Firsts
 pub mod Graphs
 pub mod Isomorphisms
 pub mod Laws

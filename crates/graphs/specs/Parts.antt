@@ -1,5 +1,5 @@
 -- The part of a graph that some picked vertices make.
-use Rattle.std.specs.Prelude.{◌≡◌, ℕ, ◌<◌, cond, ltb, List, map, length, None, filter, Option, nat_lt, slice_index}
+use Rattle.std.specs.Prelude.{◌≡◌, ℕ, ◌<◌, cond, List, map, length, None, filter, Option, nat_lt, slice_index}
 use Rattle.graphs.specs.Graphs.{Graph}
 
 -- the first n numbers strictly ascend
@@ -11,7 +11,7 @@ Rising ps = Ascends ps (length ps)
 
 -- the numbers of the list that are below n
 abbrev pub below : ℕ → List ℕ → List ℕ
-below n = filter (λ v. ltb v n)
+below n = filter (λ v. nat_lt v n)
 
 -- what an answer is at pick i, none where there is no such pick
 abbrev pub picked : {A : Type 0} → List ℕ → ℕ → (ℕ → Option A) → Option A

@@ -1,9 +1,8 @@
 -- The graph that a list of vertex labels and a list of ties stand for.
 use Rattle.std.specs.Prelude.{ℕ, Bool, cond, not, ◌&&◌, List, length, None, Option, ◌==◌, nat_lt}
-use Rattle.std.specs.List.{slice_get}
+use Rattle.std.specs.List.{slice_get, find}
 use Rattle.std.specs.Option.{option_map}
 use Rattle.graphs.specs.declared.Tie.{Tie}
-use Rattle.graphs.specs.Firsts.{first_by}
 use Rattle.graphs.specs.Graphs.{Graph}
 
 -- whether a tie runs from u to v
@@ -12,7 +11,7 @@ runs u v t = t.from == u && t.to == v
 
 -- the label of the first tie of the list from u to v
 abbrev pub first_tie : {L : Type 0} → List (Tie L) → ℕ → ℕ → Option L
-first_tie ts u v = option_map (λ t. t.label) (first_by (runs u v) ts)
+first_tie ts u v = option_map (λ t. t.label) (find (runs u v) ts)
 
 -- whether a tie from u to v counts among n vertices: both are there, and they differ
 abbrev pub counts : ℕ → ℕ → ℕ → Bool

@@ -25,23 +25,15 @@ pub struct Bands<'a> {
 fn first_band(rows: &[Band], code: Code) -> Option<Band>
     ensures { result ≡ first_band rows.now code }
 {
-    for row in rows {
-        if row.code.number == code.number {
-            return Some(*row);
-        }
-    }
-    None
+    rows.iter().copied().find(|row| row.code == code)
 }
 
 impl<'a> Key<Pay> for Bands<'a> {
     ghost fits = { λ k. band_fits k.rows.now };
 
     fn fit(&self, code: Code, label: Pay) -> bool {
-        match first_band(self.rows, code) {
-            Some(band) => {
-                band.kind == label.kind && band.low <= label.pence && label.pence <= band.high
-            }
-            None => false,
-        }
+        first_band(self.rows, code).is_some_and(|band| {
+            band.kind == label.kind && (band.low..=band.high).contains(&label.pence)
+        })
     }
 }

@@ -38,7 +38,7 @@ impl Key<Code> for SameCode {
     ghost fits = { λ _. same_code };
 
     fn fit(&self, code: Code, label: Code) -> bool {
-        code.number == label.number
+        code == label
     }
 }
 

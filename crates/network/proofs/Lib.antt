@@ -1,4 +1,3 @@
-pub mod Adding
 pub mod Additions
 pub mod Choosing
 pub mod Covering

@@ -1,6 +1,6 @@
 -- The graphs of good pieces are sound.
 use Rattle.std.proofs.Common.{◌≡◌, ℕ, zero, suc, ◌+◌, ◌-◌, ◌<◌, ◌≤◌, true, false, cond, ◌&&◌, eqb, ltb, leb, List, [], ◌∷◌, ◌++◌, length, get_or, is_some, Some, None, Option, refl, ◌∙◌, ⊎_elim, arith}
-use Rattle.std.specs.List.{AllByRecursion}
+use Rattle.std.specs.List.{AllByRecursion, list_all}
 use Rattle.std.proofs.ByRecursion.{All-push}
 use Rattle.std.proofs.lemmas.Bool.{and_parts, cases_Bool, cond_both, cond-true, cond-false, ltb-true, ltb-false, le-ltb, ne_eqb, false≢true}
 use Rattle.graphs.specs.declared.Code.{Code}
@@ -9,7 +9,7 @@ use Rattle.graphs.specs.Graphs.{Graph, Sound}
 use Rattle.graphs.specs.Tables.{first_tie}
 use Rattle.graphs.proofs.Members.{all_in}
 use Rattle.network.specs.Pieces.{Piece, vertex, join, no_graph, single, union, graph_from, graphs_after, graphs, graph_at}
-use Rattle.network.specs.Rules.{every, crosses, good_code, ascend, good_ties, good_piece, good_pieces}
+use Rattle.network.specs.Rules.{crosses, good_code, ascend, good_ties, good_piece, good_pieces}
 use Rattle.network.proofs.Splits.{every_to, tie_in_lem}
 
 pub no_graph_sound : Sound no_graph
@@ -33,7 +33,7 @@ single_sound c = record {
 }
 
 -- what ties that cross give of the first one between two vertices
-module _ (m n : ℕ) (ts : List (Tie Code)) (good : every (crosses m (m + n)) ts ≡ true) where
+module _ (m n : ℕ) (ts : List (Tie Code)) (good : list_all (crosses m (m + n)) ts ≡ true) where
   -- both are vertices, and one is of the first m and the other is not
   Across : ℕ → ℕ → Type 0
   Across u v = (u < m + n) × (v < m + n) × (cond (ltb u m) (leb m v) (ltb v m) ≡ true)
@@ -54,7 +54,7 @@ module _ (m n : ℕ) (ts : List (Tie Code)) (good : every (crosses m (m + n)) ts
   unfolding Across
   across_ends u v s = let a = across_first u v (first_tie ts u v) refl s in (a.0, a.1)
 
-module _ (a b : Graph Code) (ts : List (Tie Code)) (sa : Sound a) (sb : Sound b) (good : every (crosses a.size (a.size + b.size)) ts ≡ true) where
+module _ (a b : Graph Code) (ts : List (Tie Code)) (sa : Sound a) (sb : Sound b) (good : list_all (crosses a.size (a.size + b.size)) ts ≡ true) where
   abbrev m : ℕ
   m = a.size
 
@@ -106,7 +106,7 @@ piece_sound gs (join a b ts) h e =
     let second : Graph Code = get_or gs b no_graph in
     let p = and_parts (ltb a (length gs)) (ltb b (length gs) && good_ties first.size second.size ts) e in
     let q = and_parts (ltb b (length gs)) (good_ties first.size second.size ts) p.1 in
-    let r = and_parts (every (crosses first.size (first.size + second.size)) ts) (every (λ t. good_code t.label) ts && ascend ts) q.1 in
+    let r = and_parts (list_all (crosses first.size (first.size + second.size)) ts) (list_all (λ t. good_code t.label) ts && ascend ts) q.1 in
     union_sound first second ts (sound_at gs h a) (sound_at gs h b) r.0
 
 sound_after : (gs : List (Graph Code)) (ps : List Piece) → AllByRecursion Sound gs → good_pieces gs ps ≡ true → AllByRecursion Sound (graphs_after gs ps)

@@ -1,5 +1,6 @@
 -- The ledger: what a book holds after any finite list of enters, worked out from their arguments alone. A load is the other call that changes a ledger; it is not here, since the text of a book has no definition yet. It will be one more kind of change beside `Entering`.
 use Rattle.std.specs.Prelude.{ℕ, ◌+◌, Bool, true, cond, not, ◌&&◌, List, [], ◌∷◌, ◌++◌, map, length, Ok, Err, Result, ◌==◌, nat_le, nat_lt}
+use Rattle.std.specs.List.{list_all}
 use Rattle.graphs.specs.declared.Code.{Code}
 use Rattle.graphs.specs.declared.Tie.{Tie}
 use Rattle.graphs.specs.Graphs.{Graph}
@@ -8,7 +9,7 @@ use Rattle.network.specs.declared.EnterRefusal.{EnterRefusal}
 use Rattle.network.specs.declared.EnterRefusal.TheVariants.{BadPattern, BookFull}
 use Rattle.network.specs.Limits.{most_vertices}
 use Rattle.network.specs.Pieces.{Piece, Pattern}
-use Rattle.network.specs.Rules.{every, good_code, within}
+use Rattle.network.specs.Rules.{good_code, within}
 use Rattle.network.specs.Cutting.{Cut, cut_whole}
 
 abbrev pub enter_refusal_number : EnterRefusal → ℕ
@@ -35,11 +36,11 @@ abbrev pub good_ends : ℕ → List (Tie Code) → Bool
 good_ends n [] = true
 good_ends n (t ∷ ts) =
     (nat_lt t.from n && (nat_lt t.to n && (not (t.from == t.to) && good_code t.label))) &&
-    (every (λ u. not (runs t.from t.to u)) ts && good_ends n ts)
+    (list_all (λ u. not (runs t.from t.to u)) ts && good_ends n ts)
 
 -- whether codes and ties make a pattern that can be entered
 abbrev pub can_enter : List Code → List (Tie Code) → Bool
-can_enter cs ts = nat_le 1 (length cs) && (nat_le (length cs) most_vertices && (every good_code cs && good_ends (length cs) ts))
+can_enter cs ts = nat_le 1 (length cs) && (nat_le (length cs) most_vertices && (list_all good_code cs && good_ends (length cs) ts))
 
 -- what a taken enter gives: the pattern's number, and the ledger after it
 pub record Entered : Type 0 where

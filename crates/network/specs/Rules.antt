@@ -1,5 +1,6 @@
 -- The rules that a book keeps, as tests of its pieces and patterns.
-use Rattle.std.specs.Prelude.{◌≡◌, ℕ, ◌+◌, Bool, true, false, cond, not, ◌&&◌, ◌||◌, ltb, leb, List, [], ◌∷◌, ◌++◌, length, Some, sum_by, ◌==◌, nat_le, nat_lt, slice_index_or}
+use Rattle.std.specs.Prelude.{◌≡◌, ℕ, ◌+◌, Bool, true, cond, not, ◌&&◌, ◌||◌, List, [], ◌∷◌, ◌++◌, length, Some, sum_by, ◌==◌, nat_le, nat_lt, slice_index_or}
+use Rattle.std.specs.List.{list_all, list_any}
 use Rattle.graphs.specs.declared.Code.{Code}
 use Rattle.graphs.specs.declared.Tie.{Tie}
 use Rattle.graphs.specs.Graphs.{Graph}
@@ -7,14 +8,9 @@ use Rattle.graphs.specs.Alike.{alike}
 use Rattle.network.specs.Limits.{most_vertices, most_pieces, most_stored_ties, most_patterns, lowest_code, highest_code}
 use Rattle.network.specs.Pieces.{Piece, vertex, join, Pattern, no_graph, graph_from, graphs, stored_ties}
 
-abbrev pub every : {X : Type 0} → (X → Bool) → List X → Bool
-every test [] = true
-every test (x ∷ xs) = test x && every test xs
-
 -- whether the number is in the list
 abbrev pub has : List ℕ → ℕ → Bool
-has [] v = false
-has (x ∷ xs) v = x == v || has xs v
+has xs v = list_any (λ x. x == v) xs
 
 abbrev pub good_code : Code → Bool
 good_code c = nat_le lowest_code c.number && nat_le c.number highest_code
@@ -34,11 +30,11 @@ earlier t u = nat_lt t.from u.from || (t.from == u.from && nat_lt t.to u.to)
 -- by from, and then by to
 abbrev pub ascend : List (Tie Code) → Bool
 ascend [] = true
-ascend (t ∷ ts) = every (earlier t) ts && ascend ts
+ascend (t ∷ ts) = list_all (earlier t) ts && ascend ts
 
 -- whether the stored ties between a first part of m vertices and a second of n are good ones
 abbrev pub good_ties : ℕ → ℕ → List (Tie Code) → Bool
-good_ties m n ts = every (crosses m (m + n)) ts && (every (λ t. good_code t.label) ts && ascend ts)
+good_ties m n ts = list_all (crosses m (m + n)) ts && (list_all (λ t. good_code t.label) ts && ascend ts)
 
 -- whether a piece is good after those with these graphs: its parts are among them, and its ties run between the parts
 abbrev pub good_piece : List (Graph Code) → Piece → Bool
@@ -51,7 +47,7 @@ good_pieces gs (p ∷ ps) = good_piece gs p && good_pieces (gs ++ graph_from gs 
 
 abbrev pub none_alike : List (Graph Code) → Bool
 none_alike [] = true
-none_alike (g ∷ gs) = every (λ h. not (alike g h)) gs && none_alike gs
+none_alike (g ∷ gs) = list_all (λ h. not (alike g h)) gs && none_alike gs
 
 abbrev pub none_twice : List ℕ → Bool
 none_twice [] = true
@@ -59,7 +55,7 @@ none_twice (v ∷ vs) = not (has vs v) && none_twice vs
 
 -- whether the numbers are those below n, each once
 abbrev pub permutes : ℕ → List ℕ → Bool
-permutes n seats = length seats == n && (every (λ v. ltb v n) seats && none_twice seats)
+permutes n seats = length seats == n && (list_all (λ v. nat_lt v n) seats && none_twice seats)
 
 abbrev pub good_pattern : List (Graph Code) → Pattern → Bool
 good_pattern gs p = nat_lt p.piece (length gs) && permutes (slice_index_or gs p.piece no_graph).size p.seats
@@ -67,9 +63,9 @@ good_pattern gs p = nat_lt p.piece (length gs) && permutes (slice_index_or gs p.
 -- whether that many patterns and these pieces are within the limits
 abbrev pub within : List Piece → ℕ → Bool
 within ps patterns =
-    every (λ g. leb g.size most_vertices) (graphs ps) &&
+    list_all (λ g. nat_le g.size most_vertices) (graphs ps) &&
     (nat_le (length ps) most_pieces && (nat_le (sum_by stored_ties ps) most_stored_ties && nat_le patterns most_patterns))
 
 abbrev pub keeps_rules : List Piece → List Pattern → Bool
 keeps_rules ps patterns =
-    good_pieces [] ps && (none_alike (graphs ps) && (every (good_pattern (graphs ps)) patterns && within ps (length patterns)))
+    good_pieces [] ps && (none_alike (graphs ps) && (list_all (good_pattern (graphs ps)) patterns && within ps (length patterns)))

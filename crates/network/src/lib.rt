@@ -1,6 +1,7 @@
 // The plain types of a book's answers: why a call refuses. The definitions and laws of pieces, cutting, ledger and sweeping stand in specs/ and proofs/.
 #![tactic(auto)]
 
+pub mod book;
 pub mod laws;
 pub mod tables;
 

@@ -2,8 +2,9 @@
 #![tactic(auto)]
 
 ghost use Rattle.std.specs.Prelude.{◌≡◌, not, drop};
+ghost use Rattle.std.specs.List.{list_all};
 ghost use Rattle.network.specs.Ledger.{good_ends, can_enter};
-ghost use Rattle.network.specs.Rules.{every, good_code};
+ghost use Rattle.network.specs.Rules.{good_code};
 ghost use Rattle.graphs.specs.Tables.{runs};
 ghost use Rattle.patterns.specs.Patterns.{good_tie};
 
@@ -19,7 +20,7 @@ fn is_good_code(code: Code) -> bool
 
 // Whether every code is one that the rules allow.
 fn are_good_codes(codes: &[Code]) -> bool
-    ensures { result ≡ every good_code codes.now }
+    ensures { result ≡ list_all good_code codes.now }
 {
     for code in codes {
         if !is_good_code(*code) {
@@ -45,7 +46,7 @@ fn is_between(tie: Tie<Code>, from: usize, to: usize) -> bool
 
 // Whether no tie of the list, from that place on, runs between the same vertices in the same direction.
 fn is_not_repeated(tie: Tie<Code>, ties: &[Tie<Code>], start: usize) -> bool
-    ensures { result ≡ every (λ u. not (runs tie.from tie.to u)) (drop start ties.now) }
+    ensures { result ≡ list_all (λ u. not (runs tie.from tie.to u)) (drop start ties.now) }
 {
     for i in start..ties.len() {
         if is_between(ties[i], tie.from, tie.to) {

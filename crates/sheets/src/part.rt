@@ -1,13 +1,12 @@
 // The part: a sheet with some of its vertices picked.
 
-ghost use Rattle.std.specs.Prelude.{◌≡◌, ◌≤◌, length};
-ghost use Rattle.graphs.specs.Parts.{Ascends};
-ghost use Rattle.sheets.specs.Picks.{most_picks};
+ghost use Rattle.graphs.specs.Parts.{Rising};
 
 mod answers;
 mod picks;
 
 pub use answers::part_of_part_is_a_part;
+use short_lists::ShortList;
 
 // How many picks a part holds at most.
 pub const MOST_PICKS: usize = 256;
@@ -16,9 +15,6 @@ pub const MOST_PICKS: usize = 256;
 #[derive(Drop)]
 pub struct Part<S> {
     below: S,
-    picks: [usize; MOST_PICKS],
-    count: usize,
-    ghost long: { length picks ≡ most_picks },
-    ghost few: { count ≤ most_picks },
-    ghost ascending: { Ascends picks count },
+    picks: ShortList<usize, MOST_PICKS>,
+    ghost ascending: { Rising picks.items },
 }

@@ -18,12 +18,9 @@ pub struct TableSheet<'a, L> {
 pub fn first_tie<L: Copy>(ties: &[Tie<L>], from: usize, to: usize) -> Option<L>
     ensures { result ≡ first_tie ties.now from to }
 {
-    for tie in ties {
-        if tie.from == from && tie.to == to {
-            return Some(tie.label);
-        }
-    }
-    None
+    ties.iter()
+        .find(|tie| tie.runs(from, to))
+        .map(|tie| tie.label)
 }
 
 impl<'a, L: Copy> Sheet for TableSheet<'a, L> {
@@ -38,11 +35,7 @@ impl<'a, L: Copy> Sheet for TableSheet<'a, L> {
     }
 
     fn label(&self, vertex: usize) -> Option<L> {
-        if vertex < self.labels.len() {
-            Some(self.labels[vertex])
-        } else {
-            None
-        }
+        self.labels.get(vertex).copied()
     }
 
     fn tie(&self, from: usize, to: usize) -> Option<L> {

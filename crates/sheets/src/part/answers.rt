@@ -1,6 +1,6 @@
 // What a part answers: it is a sheet again, so parts may be taken of parts.
 
-ghost use Rattle.graphs.proofs.Parts.{part_sound, rising_front};
+ghost use Rattle.graphs.proofs.Parts.{part_sound};
 ghost use Rattle.graphs.specs.Parts.{part_graph, PartOfPart};
 ghost use Rattle.sheets.specs.Parts.{picks_of};
 
@@ -12,33 +12,23 @@ impl<S: Sheet> Sheet for Part<S> {
 
     ghost graph = { λ p. part_graph (S.Sheet.graph p.below) (picks_of p) };
 
-    ghost sound = { λ p. part_sound (S.Sheet.graph p.below) (picks_of p) (rising_front p.picks p.count p.ascending) (S.Sheet.sound p.below) };
+    ghost sound = { λ p. part_sound (S.Sheet.graph p.below) (picks_of p) p.ascending (S.Sheet.sound p.below) };
 
     fn size(&self) -> usize {
         let size_below = self.below.size();
-        let mut size = 0;
-        for i in 0..self.count {
-            if self.picks[i] < size_below {
-                size += 1;
-            }
-        }
-        size
+        let picks = self.picks.as_slice();
+        picks.iter().filter(|pick| **pick < size_below).count()
     }
 
     fn label(&self, vertex: usize) -> Option<S::Label> {
-        if vertex < self.count {
-            self.below.label(self.picks[vertex])
-        } else {
-            None
-        }
+        let pick = self.picks.as_slice().get(vertex)?;
+        self.below.label(*pick)
     }
 
     fn tie(&self, from: usize, to: usize) -> Option<S::Label> {
-        if from < self.count && to < self.count {
-            self.below.tie(self.picks[from], self.picks[to])
-        } else {
-            None
-        }
+        let picks = self.picks.as_slice();
+        let (from_pick, to_pick) = (picks.get(from)?, picks.get(to)?);
+        self.below.tie(*from_pick, *to_pick)
     }
 }
 

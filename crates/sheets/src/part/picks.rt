@@ -4,9 +4,10 @@ ghost use Rattle.std.specs.Prelude.{◌≡◌, false, [], is_ok};
 ghost use Rattle.sheets.specs.Parts.{picks_of};
 ghost use Rattle.sheets.specs.Picks.{above_last, answered, picks_after};
 
-use crate::part::{MOST_PICKS, Part};
+use crate::part::Part;
 use crate::refusal::PickRefusal;
 use crate::sheet::Sheet;
+use short_lists::ShortList;
 
 impl<S> Part<S> {
     // The part of a sheet with nothing picked yet.
@@ -16,8 +17,7 @@ impl<S> Part<S> {
     {
         Part {
             below,
-            picks: [0; MOST_PICKS],
-            count: 0,
+            picks: ShortList::new(0),
         }
     }
 
@@ -25,11 +25,7 @@ impl<S> Part<S> {
     pub fn into_sheet(self) -> S
         ensures { result ≡ self.below }
     {
-        let Part {
-            below,
-            picks: _,
-            count: _,
-        } = self;
+        let Part { below, picks: _ } = self;
         below
     }
 
@@ -37,8 +33,10 @@ impl<S> Part<S> {
     fn is_above_last(&self, vertex: usize) -> bool
         ensures { result ≡ above_last (picks_of self.now) vertex }
     {
-        let count = self.count;
-        count == 0 || self.picks[count - 1] < vertex
+        self.picks
+            .as_slice()
+            .last()
+            .is_none_or(|last| *last < vertex)
     }
 }
 
@@ -53,7 +51,7 @@ impl<S: Sheet> Part<S> {
         if vertex >= self.below.size() {
             return Err(PickRefusal::NotInSheet);
         }
-        if self.count >= MOST_PICKS {
+        if self.picks.is_full() {
             return Err(PickRefusal::TooMany);
         }
         Ok(())
@@ -67,9 +65,7 @@ impl<S: Sheet> Part<S> {
         ensures refused { is_ok result ≡ false → self.new ≡ self.old }
     {
         self.answer(vertex)?;
-        let count = self.count;
-        self.picks[count] = vertex;
-        self.count = count + 1;
+        self.picks.push(vertex);
         Ok(())
     }
 }
