@@ -1,3 +1,3 @@
+pub mod Shapes
 pub mod Alikes
 pub mod Placing
-pub mod Rows

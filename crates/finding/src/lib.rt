@@ -4,4 +4,3 @@
 pub mod alike;
 pub mod first;
 pub mod piece;
-pub mod row;

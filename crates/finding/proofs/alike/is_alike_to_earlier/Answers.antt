@@ -1,32 +1,15 @@
-use Rattle.std.proofs.Common.{◌<◌, min, sym, ◌∙◌, arith, below_more}
-use Rattle.finding.specs.Rows.{row_of}
-use Rattle.finding.proofs.Alikes.{found_alike, none_alike_lem, other_size, not_found, was_found}
+use Rattle.std.proofs.Common.{length, min, refl, ap, ◌∙◌, arith, rules}
+use Rattle.std.proofs.lemmas.Iterator.{YieldsList-from_range}
+use Rattle.std.proofs.lemmas.Iterator.Search.{any_from_yields_List}
+use Rattle.graphs.specs.Alike.{alike}
+use Rattle.network.specs.Pieces.{graph_at}
+use Rattle.network.specs.Tables.{pieces_in}
+use Rattle.finding.proofs.Alikes.{alike_earlier_lem}
 use Rattle.finding.proofs.alike.is_alike_to_earlier.Goals as goal
-use Rattle.finding.proofs.alike.is_alike_to_earlier.Goals.{else-tables-number-via-then-tables-number+else-is_some, else-tables-number-via-else-tables-number}
-
-pub returns-then-is_some : goal.returns-then-is_some
-returns-then-is_some g c =
-    let t = c.args.tables.now in
-    let h = g.S.Sheet.graph c.args.graph.now in
-    let k = c.loop-number.number in
-    let low : k < min c.args.before t.piece_count = omega (arith, c.min-end.ensures) in
-    sym (found_alike t c.requires h c.args.before k low
-    (was_found t c.requires h k (omega arith) row_of c.first_occurrence.result c.is_some.result c.first_occurrence.ensures.row c.is_some.ensures (c.if-tables-number.true ∙ c.size-size.ensures) c.if-is_some.true))
-
-pub loop-number-preserved : goal.loop-number-preserved
-loop-number-preserved g c =
-    let t = c.args.tables.now in
-    let h = g.S.Sheet.graph c.args.graph.now in
-    let k = c.loop-number.number in
-    let low : k < min c.args.before t.piece_count = omega (arith, c.min-end.ensures) in
-    below_more _ _ c.loop-number.invariant
-    (elim c.else-tables-number.branch [
-      | else-tables-number-via-then-tables-number+else-is_some w ↦
-          not_found t c.requires h k (omega arith) row_of w.first_occurrence.result w.is_some.result w.first_occurrence.ensures.row w.is_some.ensures w.if-is_some.false
-      | else-tables-number-via-else-tables-number w ↦ other_size t c.requires h k (omega arith) (λ e. w.if-tables-number.false (e ∙ sym c.size-size.ensures))
-    ])
 
 pub returns : goal.returns
 returns g c =
-    let t = c.args.tables.now in
-    sym (none_alike_lem t c.requires (g.S.Sheet.graph c.args.graph.now) c.args.before (λ k l. c.loop-number.invariant k (omega (arith, c.min-end.ensures))))
+    let b = c.args.book.now in
+    let h = g.S.Sheet.graph c.args.graph.now in
+    any_from_yields_List (λ k. alike (graph_at (pieces_in b.tables) k) h) _ _ c.any.result c.any.ensures.ran (YieldsList-from_range 0 c.min-end.result c.min-end.result refl (omega arith)) (λ x r q k. search rules)
+    ∙ alike_earlier_lem b c.args.before c.min-end.result h (c.min-end.ensures ∙ ap (λ l. min c.args.before (length l)) c.as_slice.ensures.items)
