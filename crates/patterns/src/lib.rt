@@ -1,11 +1,11 @@
 // Whether codes and ties make a pattern that can be entered.
 #![tactic(auto)]
 
-ghost use Rattle.std.specs.Prelude.{◌≡◌, not, drop};
+ghost use Rattle.std.specs.Prelude.{◌≡◌, not};
 ghost use Rattle.std.specs.List.{list_all};
+ghost use Rattle.graphs.specs.Tables.{runs};
 ghost use Rattle.network.specs.Ledger.{good_ends, can_enter};
 ghost use Rattle.network.specs.Rules.{good_code};
-ghost use Rattle.graphs.specs.Tables.{runs};
 ghost use Rattle.patterns.specs.Patterns.{good_tie};
 
 use graphs::{Code, Tie};
@@ -15,19 +15,7 @@ use network::tables::{HIGHEST_CODE, LOWEST_CODE, MOST_VERTICES};
 fn is_good_code(code: Code) -> bool
     ensures { result ≡ good_code code }
 {
-    LOWEST_CODE <= code.number && code.number <= HIGHEST_CODE
-}
-
-// Whether every code is one that the rules allow.
-fn are_good_codes(codes: &[Code]) -> bool
-    ensures { result ≡ list_all good_code codes.now }
-{
-    for code in codes {
-        if !is_good_code(*code) {
-            return false;
-        }
-    }
-    true
+    (LOWEST_CODE..=HIGHEST_CODE).contains(&code.number)
 }
 
 // Whether a tie runs from one of that many vertices to another, with a good code.
@@ -37,38 +25,32 @@ fn is_good_tie(tie: Tie<Code>, size: usize) -> bool
     tie.from < size && tie.to < size && tie.from != tie.to && is_good_code(tie.label)
 }
 
-// Whether a tie runs from the one vertex to the other.
-fn is_between(tie: Tie<Code>, from: usize, to: usize) -> bool
-    ensures { result ≡ runs from to tie }
+// Whether none of the later ties runs between the same vertices in the same direction.
+fn is_not_repeated(tie: Tie<Code>, later: &[Tie<Code>]) -> bool
+    ensures { result ≡ list_all (λ u. not (runs tie.from tie.to u)) later.now }
 {
-    tie.from == from && tie.to == to
-}
-
-// Whether no tie of the list, from that place on, runs between the same vertices in the same direction.
-fn is_not_repeated(tie: Tie<Code>, ties: &[Tie<Code>], start: usize) -> bool
-    ensures { result ≡ list_all (λ u. not (runs tie.from tie.to u)) (drop start ties.now) }
-{
-    for i in start..ties.len() {
-        if is_between(ties[i], tie.from, tie.to) {
-            return false;
-        }
-    }
-    true
+    later.iter().all(|other| !other.runs(tie.from, tie.to))
 }
 
 // Whether every tie is a good one among that many vertices, and none repeats an earlier one.
 fn are_good_ties(size: usize, ties: &[Tie<Code>]) -> bool
     ensures { result ≡ good_ends size ties.now }
 {
-    for i in 0..ties.len() {
-        if !is_good_tie(ties[i], size) {
+    let mut rest = ties;
+    while let Some((tie, later)) = rest.split_first() {
+        if !is_good_tie(*tie, size) || !is_not_repeated(*tie, later) {
             return false;
         }
-        if !is_not_repeated(ties[i], ties, i + 1) {
-            return false;
-        }
+        rest = later;
     }
     true
+}
+
+// Whether every code is one that the rules allow.
+fn are_good_codes(codes: &[Code]) -> bool
+    ensures { result ≡ list_all good_code codes.now }
+{
+    codes.iter().all(|code| is_good_code(*code))
 }
 
 // Whether the codes and ties make a pattern that can be entered: 1 to 10 vertices, good codes, and each tie in range, between two vertices, and there once.
