@@ -1,4 +1,4 @@
 pub mod Cuts
-pub mod Puts
-pub mod Storing
 pub mod Largest
+pub mod Pushed
+pub mod Storing

@@ -1,9 +1,8 @@
 -- What the part of a graph keeps.
-use Rattle.std.proofs.Common.{◌≡◌, ℕ, zero, suc, ◌<◌, ◌≤◌, true, List, [], ◌∷◌, length, get_or, take, is_some, None, Option, sym, refl, ap, ◌∙◌, ⊎_elim, arith}
-use Rattle.std.proofs.lemmas.List.{length-take-le, get_or-take, length-take}
+use Rattle.std.proofs.Common.{◌≡◌, ℕ, zero, suc, ◌<◌, ◌≤◌, true, List, [], ◌∷◌, length, get_or, is_some, None, Option, sym, refl, ap, ◌∙◌, ⊎_elim, arith}
 use Rattle.std.proofs.lemmas.Bool.{cond-true, cond-false, lt-ltb, le-ltb, cases_lt, false≢true}
 use Rattle.graphs.specs.Graphs.{Graph, Sound}
-use Rattle.graphs.specs.Parts.{Ascends, Rising, below, picked, part_graph}
+use Rattle.graphs.specs.Parts.{Rising, below, picked, part_graph}
 
 -- how many numbers of a list are below n
 abbrev pub few : ℕ → List ℕ → ℕ

@@ -98,8 +98,22 @@ module _ (t : Tables) (kept : Kept t) where
   pub piece_sound : (k : ℕ) → Sound (graph_at (pieces_in t) k)
   piece_sound = graph_sound (pieces_in t) pieces_good
 
+  limits : (list_all (λ g. leb g.size most_vertices) (graphs (pieces_in t)) ≡ true) × ((leb (length (pieces_in t)) most_pieces && (leb (sum_by stored_ties (pieces_in t)) most_stored_ties && leb (length (patterns_in t)) most_patterns)) ≡ true)
+  limits = and_parts (list_all (λ g. leb g.size most_vertices) (graphs (pieces_in t))) (leb (length (pieces_in t)) most_pieces && (leb (sum_by stored_ties (pieces_in t)) most_stored_ties && leb (length (patterns_in t)) most_patterns)) tables_within
+
+  counts : (leb (sum_by stored_ties (pieces_in t)) most_stored_ties ≡ true) × (leb (length (patterns_in t)) most_patterns ≡ true)
+  counts =
+      let pieces = and_parts (leb (length (pieces_in t)) most_pieces) (leb (sum_by stored_ties (pieces_in t)) most_stored_ties && leb (length (patterns_in t)) most_patterns) limits.1 in
+      and_parts (leb (sum_by stored_ties (pieces_in t)) most_stored_ties) (leb (length (patterns_in t)) most_patterns) pieces.1
+
+  pub ties_few : length t.ties.items ≤ most_stored_ties
+  ties_few = omega (arith, leb-true (sum_by stored_ties (pieces_in t)) most_stored_ties counts.0, laid.counted)
+
+  pub patterns_few : length (patterns_in t) ≤ most_patterns
+  patterns_few = leb-true (length (patterns_in t)) most_patterns counts.1
+
   sizes_few : list_all (λ g. leb g.size most_vertices) (graphs (pieces_in t)) ≡ true
-  sizes_few = (and_parts (list_all (λ g. leb g.size most_vertices) (graphs (pieces_in t))) (leb (length (pieces_in t)) most_pieces && (leb (sum_by stored_ties (pieces_in t)) most_stored_ties && leb (length (patterns_in t)) most_patterns)) tables_within).0
+  sizes_few = limits.0
 
   pub piece_small : (k : ℕ) → k < length t.pieces.items → (graph_at (pieces_in t) k).size ≤ most_vertices
   piece_small k h =

@@ -8,7 +8,7 @@ use crate::sheet::Sheet;
 use graphs::Tie;
 
 // A sheet with a vertex for each label. The first row with that from and that to decides on a tie. Rows from a vertex to itself, or that name a missing vertex, count for nothing.
-#[derive(Drop)]
+#[derive(Clone, Copy)]
 pub struct TableSheet<'a, L> {
     pub labels: &'a [L],
     pub ties: &'a [Tie<L>],
