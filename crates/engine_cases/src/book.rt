@@ -1,35 +1,13 @@
-// A book for the tests: tables that keep the rules, into which patterns are cut.
-
-ghost use Rattle.network.specs.Tables.{Kept};
+// Patterns that are cut and added to a book.
 
 use crate::samples::Sample;
-use cutting::book_tables::{blank_tables, with_pattern};
-use cutting::{CutTables, cut_pattern};
+use cutting::cut_pattern;
 use graphs::Code;
 use network::EnterRefusal;
-use network::tables::Tables;
+use network::book::Book;
 
-#[derive(Drop)]
-pub struct SampleBook {
-    pub tables: Tables,
-    ghost kept: { Kept tables },
-}
-
-impl SampleBook {
-    pub fn blank() -> SampleBook {
-        SampleBook {
-            tables: blank_tables(),
-        }
-    }
-
-    // Cuts the pattern and adds it after the others.
-    pub fn add(&mut self, pattern: &Sample<Code>) -> Result<(), EnterRefusal> {
-        let cut = cut_pattern(
-            &self.tables,
-            pattern.labels.as_slice(),
-            pattern.ties.as_slice(),
-        )?;
-        self.tables = with_pattern(&cut.tables, cut.pattern);
-        Ok(())
-    }
+// The book with the pattern cut and added after the others.
+pub fn with_sample(book: &Book, pattern: &Sample<Code>) -> Result<Book, EnterRefusal> {
+    let cut = cut_pattern(book, pattern.labels.as_slice(), pattern.ties.as_slice())?;
+    Ok(cut.book.with_pattern(cut.pattern))
 }

@@ -1,6 +1,6 @@
 // Books and sheets that look random, over codes and pay labels, all keys, parts and pieces.
 
-use crate::book::SampleBook;
+use crate::book::with_sample;
 use crate::compared::check_listing;
 use crate::random::Random;
 use crate::samples::{Sample, draw_sample};
@@ -8,19 +8,20 @@ use finding::piece::PieceSheet;
 use graphs::{Code, Pay};
 use keys::bands::{Band, Bands};
 use keys::{SameCode, SameKind};
+use network::book::Book;
 use sheets::part::Part;
 use sheets::table::TableSheet;
 use std::alloc::Global;
 use std::test::Fail;
 
 // Three patterns of one to four vertices, and a book of them.
-fn draw_book(heap: Global, random: &mut Random) -> Result<(SampleBook, Vec<Sample<Code>>), Fail> {
-    let mut book = SampleBook::blank();
+fn draw_book(heap: Global, random: &mut Random) -> Result<(Book, Vec<Sample<Code>>), Fail> {
+    let mut book = Book::blank();
     let mut patterns = Vec::new(heap);
     for _ in 0..3 {
         let n = (random.below(4) as usize).saturating_add(1);
         let pattern = draw_sample(heap, random, n, 3)?;
-        book.add(&pattern)?;
+        book = with_sample(&book, &pattern)?;
         patterns.push(pattern)?;
     }
     Ok((book, patterns))
@@ -109,7 +110,7 @@ fn pieces_as_sheets(rt: HostRuntime) -> Result<(), Fail> {
         let (other, _) = draw_book(heap, &mut random)?;
         for number in 0..12 {
             let sheet = PieceSheet {
-                tables: &other.tables,
+                book: &other,
                 number,
             };
             check_listing(&rt, heap, &book, patterns.as_slice(), &sheet, &SameCode)?;

@@ -1,10 +1,10 @@
 // The rows that are listed of a book's patterns, beside those that the matcher finds.
 
-use crate::book::SampleBook;
 use crate::matcher::{is_occurrence, row_numbers, row_of_number};
 use crate::samples::Sample;
 use graphs::Code;
 use keys::Key;
+use network::book::Book;
 use sheets::sheet::Sheet;
 use std::alloc::Global;
 use std::process::Abort;
@@ -13,15 +13,6 @@ use writing::{Listing, list_rows};
 
 // How long the work list and the row list of a comparison are.
 const ROOM: usize = 20_000;
-
-fn same_numbers(a: &[usize], b: &[usize]) -> bool {
-    for (x, y) in a.iter().zip(b.iter()) {
-        if *x != *y {
-            return false;
-        }
-    }
-    a.len() == b.len()
-}
 
 // How often the row is listed for the pattern of this number.
 fn times_listed(
@@ -44,7 +35,7 @@ fn times_listed(
         if end < start || end > numbers.len() {
             return times;
         }
-        if *first == number && same_numbers(&numbers[start..end], row) {
+        if *first == number && &numbers[start..end] == row {
             times = times.saturating_add(1);
         }
         at = end;
@@ -81,20 +72,14 @@ fn check_pattern<S: Sheet, K: Key<S::Label>>(
 pub fn check_listing<S: Sheet, K: Key<S::Label>>(
     rt: &impl Abort,
     heap: Global,
-    book: &SampleBook,
+    book: &Book,
     patterns: &[Sample<Code>],
     sheet: &S,
     key: &K,
 ) -> Result<(), Fail> {
     let mut work = vec![in heap; 0; ROOM]?;
     let mut rows = vec![in heap; 0; ROOM]?;
-    let listing = list_rows(
-        &book.tables,
-        sheet,
-        key,
-        work.as_mut_slice(),
-        rows.as_mut_slice(),
-    )?;
+    let listing = list_rows(book, sheet, key, work.as_mut_slice(), rows.as_mut_slice())?;
     let written = rows.as_slice();
     let end = listing.numbers;
     assert!(rt; end <= written.len());

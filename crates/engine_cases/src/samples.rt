@@ -11,6 +11,11 @@ pub struct Sample<L> {
     pub ties: Vec<Tie<L>>,
 }
 
+// A pay label without an amount.
+pub fn pay(kind: u32) -> Pay {
+    Pay { kind, pence: 0 }
+}
+
 // A label that can be made up.
 pub trait Drawn: Copy {
     fn draw(random: &mut Random) -> Self;

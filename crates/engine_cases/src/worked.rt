@@ -1,10 +1,11 @@
 // Two patterns worked out by hand: two of code 10, each tied to one of code 20 (fork), and one of code 10, tied to each of two of code 20 (split).
 
-use crate::book::SampleBook;
-use crate::samples::Sample;
+use crate::book::with_sample;
+use crate::samples::{Sample, pay};
 use graphs::{Code, Pay, Tie};
 use keys::SameKind;
 use network::SweepRefusal;
+use network::book::Book;
 use sheets::table::TableSheet;
 use std::alloc::{AllocError, Global};
 use std::test::Fail;
@@ -31,10 +32,6 @@ fn pattern(
     Ok(Sample { labels, ties })
 }
 
-fn pay(kind: u32) -> Pay {
-    Pay { kind, pence: 0 }
-}
-
 fn tie(from: usize, to: usize) -> Tie<Pay> {
     Tie {
         from,
@@ -46,11 +43,10 @@ fn tie(from: usize, to: usize) -> Tie<Pay> {
 #[test]
 fn fork_and_split_are_listed(rt: HostRuntime) -> Result<(), Fail> {
     let heap = rt.alloc();
-    let mut book = SampleBook::blank();
-    book.add(&pattern(heap, [10, 10, 20], [(0, 2), (1, 2)])?)?;
-    assert_eq!(rt; book.tables.piece_count, 4);
-    book.add(&pattern(heap, [20, 10, 20], [(1, 0), (1, 2)])?)?;
-    assert_eq!(rt; book.tables.piece_count, 5);
+    let book = with_sample(&Book::blank(), &pattern(heap, [10, 10, 20], [(0, 2), (1, 2)])?)?;
+    assert_eq!(rt; book.tables.pieces.as_slice().len(), 4);
+    let book = with_sample(&book, &pattern(heap, [20, 10, 20], [(1, 0), (1, 2)])?)?;
+    assert_eq!(rt; book.tables.pieces.as_slice().len(), 5);
     let labels = [pay(10), pay(10), pay(20), pay(20)];
     let ties = [tie(0, 2), tie(1, 2), tie(1, 3)];
     let sheet = TableSheet {
@@ -59,7 +55,7 @@ fn fork_and_split_are_listed(rt: HostRuntime) -> Result<(), Fail> {
     };
     let mut work = [7; 22];
     let mut rows = [9; 17];
-    let listed = list_rows(&book.tables, &sheet, &SameKind, &mut work, &mut rows);
+    let listed = list_rows(&book, &sheet, &SameKind, &mut work, &mut rows);
     assert_eq!(rt;
         listed,
         Ok(Listing {
@@ -75,9 +71,8 @@ fn fork_and_split_are_listed(rt: HostRuntime) -> Result<(), Fail> {
 #[test]
 fn short_lists_are_refused(rt: HostRuntime) -> Result<(), Fail> {
     let heap = rt.alloc();
-    let mut book = SampleBook::blank();
-    book.add(&pattern(heap, [10, 10, 20], [(0, 2), (1, 2)])?)?;
-    book.add(&pattern(heap, [20, 10, 20], [(1, 0), (1, 2)])?)?;
+    let book = with_sample(&Book::blank(), &pattern(heap, [10, 10, 20], [(0, 2), (1, 2)])?)?;
+    let book = with_sample(&book, &pattern(heap, [20, 10, 20], [(1, 0), (1, 2)])?)?;
     let labels = [pay(10), pay(10), pay(20), pay(20)];
     let ties = [tie(0, 2), tie(1, 2), tie(1, 3)];
     let sheet = TableSheet {
@@ -86,11 +81,11 @@ fn short_lists_are_refused(rt: HostRuntime) -> Result<(), Fail> {
     };
     let mut work = [7; 21];
     let mut rows = [9; 15];
-    let heavy = list_rows(&book.tables, &sheet, &SameKind, &mut work, &mut rows);
+    let heavy = list_rows(&book, &sheet, &SameKind, &mut work, &mut rows);
     assert_eq!(rt; heavy, Err(SweepRefusal::TooHeavy));
     assert_eq!(rt; work, [0; 21]);
     let mut work = [7; 22];
-    let short = list_rows(&book.tables, &sheet, &SameKind, &mut work, &mut rows);
+    let short = list_rows(&book, &sheet, &SameKind, &mut work, &mut rows);
     assert_eq!(rt; short, Err(SweepRefusal::RowsTooMany));
     assert_eq!(rt; rows, [9; 15]);
     assert_eq!(rt; work, [0; 22]);

@@ -7,12 +7,13 @@ mod sheet;
 
 use anyhow::anyhow;
 use counting::CountingSheet;
-use engine_cases::book::SampleBook;
+use engine_cases::book::with_sample;
 use engine_cases::samples::Sample;
 use graphs::{Code, Pay, Tie};
 use keys::SameKind;
 use models::{ALONE, LARGE, Model, SHARED};
 use network::SweepRefusal;
+use network::book::Book;
 use sheet::{Links, make_links};
 use sheets::sheet::Sheet;
 use sheets::table::TableSheet;
@@ -41,32 +42,31 @@ fn sample_of(heap: Global, model: Model) -> Result<Sample<Code>, AllocError> {
     Ok(Sample { labels, ties })
 }
 
-fn cut_all(rt: &HostRuntime, book: &mut SampleBook, models: &[Model]) -> anyhow::Result<()> {
+fn cut_all(rt: &HostRuntime, book: Book, models: &[Model]) -> anyhow::Result<Book> {
+    let mut cut = book;
     for model in models {
         let pattern = sample_of(rt.alloc(), *model)?;
-        if book.add(&pattern).is_err() {
-            return Err(anyhow!("a pattern was refused"));
-        }
+        cut = with_sample(&cut, &pattern).map_err(|_| anyhow!("a pattern was refused"))?;
     }
-    Ok(())
+    Ok(cut)
 }
 
 // Lists the rows of all patterns, and says how many milliseconds that took.
 fn time_listing<S: Sheet<Label = Pay>>(
     rt: &HostRuntime,
-    book: &SampleBook,
+    book: &Book,
     sheet: &S,
     work: &mut [usize],
     rows: &mut [usize],
 ) -> anyhow::Result<(Result<Listing, SweepRefusal>, u128)> {
     let start = Instant::now(rt)?;
-    let listed = list_rows(&book.tables, sheet, &SameKind, work, rows);
+    let listed = list_rows(book, sheet, &SameKind, work, rows);
     let time = start.elapsed(rt)?.as_millis();
     Ok((listed, time))
 }
 
 // Measures a listing without room for rows, which fills and clears the work list, and one with room.
-fn measure(rt: &HostRuntime, book: &SampleBook, links: &Links) -> anyhow::Result<()> {
+fn measure(rt: &HostRuntime, book: &Book, links: &Links) -> anyhow::Result<()> {
     let heap = rt.alloc();
     let table = TableSheet {
         labels: links.labels.as_slice(),
@@ -96,14 +96,14 @@ fn measure(rt: &HostRuntime, book: &SampleBook, links: &Links) -> anyhow::Result
 }
 
 fn run(rt: &HostRuntime) -> anyhow::Result<()> {
-    let mut book = SampleBook::blank();
     let start = Instant::now(rt)?;
-    cut_all(rt, &mut book, &ALONE)?;
-    cut_all(rt, &mut book, &SHARED)?;
-    cut_all(rt, &mut book, &LARGE)?;
+    let mut book = Book::blank();
+    for models in [ALONE, SHARED, LARGE] {
+        book = cut_all(rt, book, &models)?;
+    }
     let cut = start.elapsed(rt)?.as_micros();
-    let patterns = book.tables.pattern_count;
-    let pieces = book.tables.piece_count;
+    let patterns = book.tables.patterns.as_slice().len();
+    let pieces = book.tables.pieces.as_slice().len();
     println!(rt; "{patterns} patterns, {pieces} pieces")?;
     eprintln!(rt; "{cut} microseconds to cut them")?;
     for word in env::args(rt)?.skip(1) {

@@ -1,5 +1,7 @@
 // Sheets of any size at constant degree: persons, accounts, sites and logins in equal number, and each person tied to one account, one site and one login, and one in four to another person of the same household.
 
+use engine_cases::random::Random;
+use engine_cases::samples::pay;
 use graphs::{Pay, Tie};
 use std::alloc::{AllocError, Global};
 
@@ -25,26 +27,11 @@ pub struct Links {
     pub ties: Vec<Tie<Pay>>,
 }
 
-fn pay(kind: u32) -> Pay {
-    Pay { kind, pence: 0 }
-}
-
-// The next of a fixed sequence of numbers that look random, below n.
-fn next_below(state: &mut u64, n: usize) -> usize {
-    *state = state
-        .wrapping_mul(6_364_136_223_846_793_005)
-        .wrapping_add(1_442_695_040_888_963_407);
-    if n == 0 {
-        return 0;
-    }
-    (*state >> 33) as usize % n
-}
-
 // Vertices come in groups of four: person, account, site, login. `groups` of them.
 pub fn make_links(heap: Global, groups: usize) -> Result<Links, AllocError> {
     let mut labels = Vec::new(heap);
     let mut ties = Vec::new(heap);
-    let mut state: u64 = 2026;
+    let mut random = Random::new(2026);
     for group in 0..groups {
         labels.push(pay(PERSON))?;
         labels.push(pay(ACCOUNT))?;
@@ -52,7 +39,7 @@ pub fn make_links(heap: Global, groups: usize) -> Result<Links, AllocError> {
         labels.push(pay(LOGIN))?;
         let person = group.saturating_mul(4);
         for (place, kind) in [(1, PAID_INTO), (2, WORKS_AT), (3, USES)] {
-            let other = next_below(&mut state, groups);
+            let other = random.below(groups as u64) as usize;
             ties.push(Tie {
                 from: person,
                 to: other.saturating_mul(4).saturating_add(place),
