@@ -6,5 +6,6 @@ pub mod Members
 pub mod Nested
 pub mod Occurrences
 pub mod Parts
+pub mod Sights
 pub mod Tables
 pub mod Words
