@@ -16,10 +16,10 @@ loop-line-preserved g c =
     = λ ls. Filling g.L.Label.form c.args.number c.args.text.now c.args.vertices.now c.args.ties.now c.loop-line.progress c.loop-line.vertices c.loop-line.ties (given c.loop-line.lines + 1) ls in
     let there : ℕ → Type 0
     = λ k. Filling g.L.Label.form c.args.number c.args.text.now c.args.vertices.now c.args.ties.now c.store-progress.result c.store-progress.new.vertices c.store-progress.new.ties (k + 1) (left c.next.new.self) in
-    subst there (sym c.in-Some.ensures.2)
+    subst there (sym c.in-Some.ensures.steps.2)
     (turned g.L.Label.form c.args.number c.args.text.now c.args.vertices.now c.args.ties.now c.loop-line.progress c.loop-line.vertices c.loop-line.ties
     (given c.loop-line.lines + 1) c.in-Some.line.bytes.now (left c.next.new.self) c.in_ok-said.said
     c.store-progress.result c.store-progress.new.vertices c.store-progress.new.ties
-    (subst here c.in-Some.ensures.0 c.loop-line.invariant) goes
+    (subst here c.in-Some.ensures.steps.0 c.loop-line.invariant) goes
     (read_ok c.args.number c.in-Some.line.place _ c.read_next-read.result c.placed.result c.in_ok-said.said c.read_next-read.ensures c.placed.ensures c.in_ok-said.was)
     c.store-progress.ensures.stage c.store-progress.ensures.counts c.store-progress.ensures.vertices c.store-progress.ensures.ties)
