@@ -96,11 +96,11 @@ tie_line form room n ts fs =
 abbrev pub end_line : {L : Type 0} → List (List ℕ) → Result (Record L) LineFault
 end_line fs = cond (length fs == 0) (Ok End) (Err FieldCount)
 
--- the letter that is a field, or 0 where the field is not one byte
-abbrev pub letter_of : List ℕ → ℕ
-letter_of [] = 0
-letter_of (b ∷ []) = b
-letter_of (b ∷ c ∷ bs) = 0
+-- the letter that is a field; none where the field is not one byte
+abbrev pub letter_of : List ℕ → Option ℕ
+letter_of [] = None
+letter_of (b ∷ []) = Some b
+letter_of (b ∷ c ∷ bs) = None
 
 -- what a line says by its letter: 103 is `g`, 110 `n`, 116 `t`, 101 `e`. All `n` lines stand before the `t` lines.
 abbrev pub by_letter : {L : Type 0} → Form L → Counts → Stage → ℕ → List (Tie L) → ℕ → List (List ℕ) → Result (Record L) LineFault
@@ -112,8 +112,13 @@ by_letter form room Ties n ts letter fs =
     cond (letter == 116) (tie_line form room.ties n ts fs) (cond (letter == 101) (end_line fs) (Err Letter))
 by_letter form room Closed n ts letter fs = Err Letter
 
+-- a line without a letter is refused as one with a wrong letter
+abbrev pub by_first : {L : Type 0} → Form L → Counts → Stage → ℕ → List (Tie L) → Option ℕ → List (List ℕ) → Result (Record L) LineFault
+by_first form room stage n ts None fs = Err Letter
+by_first form room stage n ts (Some letter) fs = by_letter form room stage n ts letter fs
+
 abbrev pub record_of : {L : Type 0} → Form L → Counts → Stage → ℕ → List (Tie L) → List ℕ → Result (Record L) LineFault
-record_of form room stage n ts line = by_letter form room stage n ts (letter_of (first_of (split 9 line))) (rest_of (split 9 line))
+record_of form room stage n ts line = by_first form room stage n ts (letter_of (first_of (split 9 line))) (rest_of (split 9 line))
 
 -- what the lines so far have said
 pub record State (L : Type 0) : Type 0 where

@@ -3,10 +3,10 @@
 ghost use Rattle.std.specs.Prelude.{◌≡◌, ℕ, ◌+◌, ◌<◌, ◌≤◌, length, take};
 ghost use Rattle.grammar.specs.Reading.{closing, record_of};
 ghost use Rattle.texts.specs.Graphs.{Read, Exact, Blames};
-ghost use Rattle.texts.specs.Storing.{placed_at, HasRoom, stage_after, counts_after, vertices_after, ties_after};
+ghost use Rattle.texts.specs.Storing.{HasRoom, stage_after, counts_after, vertices_after, ties_after};
 
 use super::labels::Label;
-use super::lines::read_line;
+use super::lines::SoFar;
 use faults::{FaultyLine, LineFault, TextFault};
 use fields::Pieces;
 use grammar::{Counts, Record, Stage};
@@ -42,44 +42,25 @@ fn read_next<L: Label>(
     ensures { result ≡ record_of L.Label.form room progress.stage progress.counts.vertices (take progress.counts.ties ties.now) line.now }
 {
     let tied = progress.counts.ties;
-    read_line(
-        line,
-        progress.stage,
-        progress.counts.vertices,
-        &ties[0..tied],
+    let so_far = SoFar {
+        stage: progress.stage,
+        vertices: progress.counts.vertices,
+        ties: &ties[..tied],
         room,
-    )
-}
-
-// A line's fault with its place.
-fn placed<T>(read: Result<T, LineFault>, text: usize, line: usize) -> Result<T, FaultyLine>
-    ensures { result ≡ placed_at text line read }
-{
-    match read {
-        Ok(value) => Ok(value),
-        Err(fault) => Err(FaultyLine { text, line, fault }),
-    }
+    };
+    so_far.read_line(line)
 }
 
 // The answer once only `rest` is left after the last line feed of a text, as line `line`.
 fn close(progress: Progress, text: usize, line: usize, rest: &[u8]) -> Result<Counts, TextFault>
     ensures { result ≡ closing progress.stage progress.counts text line rest.now }
 {
-    if rest.len() > 0 {
-        return Err(TextFault::InLine(FaultyLine {
-            text,
-            line,
-            fault: LineFault::NoLineFeed,
-        }));
-    }
-    match progress.stage {
-        Stage::Closed => Ok(progress.counts),
-        _ => Err(TextFault::InLine(FaultyLine {
-            text,
-            line,
-            fault: LineFault::TextStops,
-        })),
-    }
+    let fault = match progress.stage {
+        _ if !rest.is_empty() => LineFault::NoLineFeed,
+        Stage::Closed => return Ok(progress.counts),
+        _ => LineFault::TextStops,
+    };
+    Err(TextFault::InLine(FaultyLine { text, line, fault }))
 }
 
 // Stores what a line says in the next free entry of its list, and says how far that leads.
@@ -131,12 +112,16 @@ fn read_lines<L: Label>(
     };
     let mut progress = START;
     let mut lines = Pieces::new(text, b'\n');
+    // Whether a line is the last is asked of the iterator between its items, so this is no `for`.
     while let Some(line) = lines.next() {
         if lines.is_done() {
             return close(progress, number, line.place, line.bytes);
         }
-        let read = read_next(line.bytes, progress, ties, room);
-        let said = placed(read, number, line.place)?;
+        let said = read_next(line.bytes, progress, ties, room).map_err(|fault| FaultyLine {
+            text: number,
+            line: line.place,
+            fault,
+        })?;
         progress = store(said, progress, vertices, ties);
     }
     Err(TextFault::InLine(FaultyLine {
