@@ -14,6 +14,7 @@ pub struct Piece<'a> {
 }
 
 // Hands out the pieces of a text one after another. A text has one piece more than separators, so the last may be empty.
+// The library's `split` would make the type generic over a closure, for the separator.
 // The rest is what stands after the last separator so far, and none once the last piece is handed out.
 #[derive(Clone, Copy)]
 pub struct Pieces<'a> {

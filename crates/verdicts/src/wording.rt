@@ -67,9 +67,9 @@ fn sentence(heap: Global, text: &[u8], fault: TextFault) -> Result<String, Alloc
     }
 }
 
-// The fields of the refusal line, after a sheet's name.
-fn refusal_row(heap: Global, name: &str, refusal: Refusal) -> Result<String, AllocError>
-    ensures { IfOk result (λ s. string_bytes s ≡ refusal_row name.now refusal) }
+// Adds the fields of the refusal line, after a sheet's name.
+fn push_refusal_row(out: &mut String, name: &str, refusal: Refusal) -> Result<(), AllocError>
+    ensures { OnOk result (string_bytes out.new ≡ string_bytes out.old ++ refusal_row name.now refusal) }
 {
     let Refusal {
         number,
@@ -77,7 +77,7 @@ fn refusal_row(heap: Global, name: &str, refusal: Refusal) -> Result<String, All
         line,
         field,
     } = refusal;
-    format!(in heap; "{name}\tr\t{number}\t{text}\t{line}\t{field}\n")
+    write!(out, "{name}\tr\t{number}\t{text}\t{line}\t{field}\n")
 }
 
 // The two lines on a bad sheet: a sentence, and the fields of the refusal line.
@@ -86,8 +86,7 @@ fn refused(heap: Global, name: &str, text: &[u8], fault: TextFault) -> Result<St
 {
     let wrong = sentence(heap, text, fault)?;
     let mut out = format!(in heap; "{name}: {wrong}\n")?;
-    let row = refusal_row(heap, name, fault.refusal())?;
-    out.push_str(row.as_str())?;
+    push_refusal_row(&mut out, name, fault.refusal())?;
     Ok(out)
 }
 
