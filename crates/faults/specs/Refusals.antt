@@ -1,5 +1,5 @@
 -- The number of each fault, and where it lies.
-use Rattle.std.specs.Prelude.{ℕ}
+use Rattle.std.specs.Prelude.{ℕ, Some, None, Option}
 use Rattle.faults.specs.declared.FieldTrouble.{FieldTrouble}
 use Rattle.faults.specs.declared.FieldTrouble.TheVariants.{NoNumber, OutOfRange, LabelCount, MissingVertex}
 use Rattle.faults.specs.declared.LineFault.{LineFault}
@@ -24,16 +24,20 @@ line_fault_number OwnTie = 7
 line_fault_number RepeatedPair = 7
 line_fault_number NoRoom = 8
 
--- the faulty field, the first for a wrong letter, and 0 where the fault is the line's
+-- the faulty field, the first for a wrong letter; none where the fault is the line's
+abbrev pub faulty_field : LineFault → Option ℕ
+faulty_field TextStops = None
+faulty_field NoLineFeed = None
+faulty_field Letter = Some 1
+faulty_field FieldCount = None
+faulty_field (InField f) = Some f.field
+faulty_field OwnTie = None
+faulty_field RepeatedPair = None
+faulty_field NoRoom = None
+
+-- the same as a number, 0 where the fault is the line's
 abbrev pub field_of : LineFault → ℕ
-field_of TextStops = 0
-field_of NoLineFeed = 0
-field_of Letter = 1
-field_of FieldCount = 0
-field_of (InField f) = f.field
-field_of OwnTie = 0
-field_of RepeatedPair = 0
-field_of NoRoom = 0
+field_of fault = elim (faulty_field fault) [ None ↦ 0 | Some k ↦ k ]
 
 -- the four numbers of a fault; a text that is too long has no faulty line
 abbrev pub refusal_of : TextFault → Refusal

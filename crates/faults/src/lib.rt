@@ -2,7 +2,7 @@
 #![tactic(auto)]
 
 ghost use Rattle.std.specs.Prelude.{◌≡◌};
-ghost use Rattle.faults.specs.Refusals.{trouble_number, line_fault_number, field_of, refusal_of};
+ghost use Rattle.faults.specs.Refusals.{trouble_number, line_fault_number, faulty_field, refusal_of};
 ghost use Rattle.faults.specs.declared.LineFault.TheVariants.{InField};
 ghost use Rattle.faults.specs.declared.TextFault.TheVariants.{InLine};
 
@@ -65,6 +65,7 @@ pub enum TextFault {
 }
 
 // A refusal in numbers: what is wrong, and in which text, line and field, with 0 where there is none.
+// The refusal line prints just these numbers (a rule of the project), so they are no enums and no options.
 #[derive(Clone, Copy, PartialEq, Eq, Debug)]
 pub struct Refusal {
     pub number: usize,
@@ -98,9 +99,7 @@ impl FieldTrouble {
     {
         match self {
             FieldTrouble::NoNumber => 5,
-            FieldTrouble::OutOfRange => 6,
-            FieldTrouble::LabelCount => 6,
-            FieldTrouble::MissingVertex => 6,
+            FieldTrouble::OutOfRange | FieldTrouble::LabelCount | FieldTrouble::MissingVertex => 6,
         }
     }
 }
@@ -111,25 +110,23 @@ impl LineFault {
         ensures { result ≡ line_fault_number self }
     {
         match self {
-            LineFault::TextStops => 2,
-            LineFault::NoLineFeed => 2,
+            LineFault::TextStops | LineFault::NoLineFeed => 2,
             LineFault::Letter => 3,
             LineFault::FieldCount => 4,
             LineFault::InField(fault) => fault.trouble.number(),
-            LineFault::OwnTie => 7,
-            LineFault::RepeatedPair => 7,
+            LineFault::OwnTie | LineFault::RepeatedPair => 7,
             LineFault::NoRoom => 8,
         }
     }
 
-    // The faulty field of the line, or 0 where the fault is the line's.
-    pub fn field(self) -> usize
-        ensures { result ≡ field_of self }
+    // The faulty field of the line; none where the fault is the line's.
+    pub fn field(self) -> Option<usize>
+        ensures { result ≡ faulty_field self }
     {
         match self {
-            LineFault::Letter => 1,
-            LineFault::InField(fault) => fault.field,
-            _ => 0,
+            LineFault::Letter => Some(1),
+            LineFault::InField(fault) => Some(fault.field),
+            _ => None,
         }
     }
 }
@@ -150,7 +147,7 @@ impl TextFault {
                 number: faulty.fault.number(),
                 text: faulty.text,
                 line: faulty.line,
-                field: faulty.fault.field(),
+                field: faulty.fault.field().unwrap_or(0),
             },
         }
     }

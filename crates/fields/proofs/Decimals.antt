@@ -1,6 +1,9 @@
 -- The laws of numerals: how they go on, and that a field is a number exactly where it is the numeral of one below 10 ^ 9.
-use Rattle.std.proofs.Common.{◌≡◌, ℕ, ◌+◌, ◌-◌, ◌*◌, ◌/◌, ◌%◌, ◌^◌, ◌<◌, ◌≤◌, true, not, ◌||◌, eqb, ltb, leb, List, [], ◌∷◌, ◌++◌, length, get_or, Some, None, decimal, Option, sym, refl, ap, ◌∙◌, ⊎_elim, arith, MatchOption}
+use Rattle.std.proofs.Common.{pow-suc, add-one, lit<, zero, suc, ◌≡◌, ℕ, ◌+◌, ◌-◌, ◌*◌, ◌/◌, ◌%◌, ◌^◌, ◌<◌, ◌≤◌, true, not, ◌||◌, eqb, ltb, leb, List, [], ◌∷◌, ◌++◌, length, get_or, Some, None, decimal, Option, sym, refl, ap, ◌∙◌, ⊎_elim, arith, MatchOption}
+use native.Mathlib.Nat.{pow-le-pow_right}
+use Rattle.std.specs.Option.{unwrap_or, IfSome, IfNone}
 use Rattle.std.specs.Str.{all_ascii_digits}
+use Rattle.std.proofs.lemmas.List.{length_push}
 use Rattle.std.proofs.lemmas.Str.Parse.{IsNumeralModel, FoldsDigits, numerals_by_fold, tells_all_ascii_digits, digits_value_short}
 use Rattle.std.proofs.lemmas.Fmt.{decimal-digits_value, digits_decimal, digits_value-decimal, length-decimal-le, decimal_nonempty, first_decimal, decimal_digit, decimal_step, AppendsLastDigit, decimal_from_appends}
 use Rattle.std.proofs.lemmas.Bool.{cond-true, cond-false, and_parts, and_from, or_cases, eqb-true, eqb-false, not-true, ltb-true, leb-true, lt-ltb, le-ltb, le-leb, eq-eqb, ne_eqb, or_left, or_right, not_from_false, cases_Bool, cases_eq}
@@ -28,6 +31,26 @@ length-numeral_le k n z h w = omega (arith, ap length (decimal_is n w), length-d
 
 pub numeral_some : (n : ℕ) → n < 2 ^ 64 → 0 < length (numeral n)
 numeral_some n w = omega (arith, ap length (decimal_is n w), decimal_nonempty n w)
+
+-- ten to the power of one digit less is at most the number
+length-numeral_gt : (k n : ℕ) → 10 ^ k ≤ n → n < 2 ^ 64 → k < length (numeral n)
+length-numeral_gt zero n h w = numeral_some n w
+length-numeral_gt (suc k) n h w =
+    let least : 0 ≤ k = omega arith in
+    let some : 10 ^ 0 ≤ 10 ^ k = pow-le-pow_right {n = 10} (lit< tt) least in
+    let long : 10 ^ k * 10 ≤ n = rw pow-suc at h in
+    omega (arith, ap length (numeral_step n (omega arith) w), length_push (numeral (n / 10)) (48 + n % 10), length-numeral_gt k (n / 10) (omega arith) (omega arith))
+
+length-numeral : (k n : ℕ) → 10 ^ k ≤ n → n < 10 * 10 ^ k → n < 2 ^ 64 → length (numeral n) ≡ k + 1
+length-numeral k n l u w =
+    let h : n < 10 ^ (k + 1) = rw (add-one, pow-suc) (omega arith) in
+    omega (arith, length-numeral_gt k n l w, length-numeral_le (k + 1) n (omega arith) h w)
+
+-- one digit more than the logarithm, which zero does not have
+pub numeral_by_log : (n : ℕ) (log : Option ℕ) → n < 2 ^ 64 → IfNone log (n ≡ 0) → IfSome log (λ k. 10 ^ k ≤ n) → IfSome log (λ k. n < 10 * 10 ^ k)
+    → length (numeral n) ≡ unwrap_or log 0 + 1
+numeral_by_log n None w z l u = omega (arith, ap length (numeral_digit n (omega arith)))
+numeral_by_log n (Some k) w z l u = length-numeral k n l u w
 
 abbrev value_on : ℕ → List ℕ → ℕ
 value_on v [] = v

@@ -1,7 +1,6 @@
 -- How long written numbers are, one after another.
-use Rattle.std.proofs.Common.{◌≡◌, ℕ, ◌+◌, ◌-◌, ◌<◌, leb, List, [], ◌∷◌, ◌++◌, length, get_or, take, drop, sym, ap, ◌∙◌, ⊎_elim, arith}
+use Rattle.std.proofs.Common.{◌≡◌, ℕ, ◌+◌, ◌<◌, List, [], ◌∷◌, ◌++◌, length, get_or, take, drop, sym, ap, ◌∙◌, arith}
 use Rattle.std.proofs.lemmas.List.{at_drop_more, length-append, take_more, flat_map_more}
-use Rattle.std.proofs.lemmas.Bool.{le-leb, lt-leb, cases_lt}
 use Rattle.fields.specs.Numbers.{numeral}
 use Rattle.fields.specs.Lines.{numbers_text}
 
@@ -17,10 +16,3 @@ size_more ns i h = at_drop_more (λ l. length (numbers_text l)) ns i 0 h ∙ fir
 pub text_more : (ns : List ℕ) (i : ℕ) → i < length ns
     → numbers_text (take (i + 1) ns) ≡ numbers_text (take i ns) ++ 9 ∷ numeral (get_or ns i 0)
 text_more ns i h = ap numbers_text (take_more ns i 0 h) ∙ sym (flat_map_more (λ n. 9 ∷ numeral n) [] (take i ns) (get_or ns i 0))
-
--- room that is left once a number of c digits has its part of it
-pub fits_less : (c rest room : ℕ) → c < room → leb (1 + c + rest) room ≡ leb rest (room - c - 1)
-fits_less c rest room h = ⊎_elim
-    (λ l. lt-leb _ _ l ∙ sym (lt-leb rest (room - c - 1) (omega arith)))
-    (λ l. le-leb _ _ l ∙ sym (le-leb rest (room - c - 1) (omega arith)))
-    (cases_lt room (1 + c + rest))

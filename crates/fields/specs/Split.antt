@@ -1,5 +1,6 @@
 -- A text cut into pieces at each separator.
-use Rattle.std.specs.Prelude.{◌≡◌, ℕ, ◌+◌, Bool, true, false, cond, List, [], ◌∷◌, ◌++◌, length, drop, Some, None, Option, ◌==◌, nat_le}
+use Rattle.std.specs.Prelude.{◌≡◌, ℕ, ◌+◌, Bool, true, false, cond, List, [], ◌∷◌, ◌++◌, Some, None, Option, ◌==◌}
+use denote.Ref.{Bor}
 use Rattle.fields.specs.declared.pieces.Piece.{Piece}
 use Rattle.fields.specs.declared.pieces.Pieces.{Pieces}
 
@@ -13,13 +14,14 @@ abbrev pub split : ℕ → List ℕ → List (List ℕ)
 split s [] = [] ∷ []
 split s (b ∷ bs) = cond (b == s) ([] ∷ split s bs) (ahead (b ∷ []) (split s bs))
 
--- the pieces from a place on: none past the end
-abbrev pub split_from : ℕ → ℕ → List ℕ → List (List ℕ)
-split_from s start bs = cond (nat_le start (length bs)) (split s (drop start bs)) []
+-- the pieces of what is left of a text: none where nothing is, not even the last piece
+abbrev pub pieces_in : ℕ → Option (Bor (List ℕ)) → List (List ℕ)
+pieces_in s None = []
+pieces_in s (Some bytes) = split s bytes.now
 
 -- the pieces that are yet to be handed out, and how many have been
 abbrev pub left : Pieces → List (List ℕ)
-left r = split_from r.separator r.start r.text.now
+left r = pieces_in r.separator r.rest
 
 abbrev pub given : Pieces → ℕ
 given r = r.count

@@ -10,7 +10,7 @@ pub const MOST_DIGITS: usize = 9;
 fn is_shapely(field: &[u8]) -> bool
     ensures { result ≡ shapely field.now }
 {
-    field.len() > 0 && field.len() <= MOST_DIGITS && (field.len() == 1 || field[0] != b'0')
+    (1..=MOST_DIGITS).contains(&field.len()) && (field.len() == 1 || field[0] != b'0')
 }
 
 // The number that at most nine digits write.
@@ -19,12 +19,12 @@ fn read_digits(field: &[u8]) -> Option<u32>
     ensures value { result ≡ read_on 0 field.now }
     ensures small { IfSome result (λ n. n < 10 ^ 9) }
 {
-    let mut value: u32 = 0;
+    let mut value = 0;
     for byte in field {
-        if *byte < b'0' || *byte > b'9' {
+        if !byte.is_ascii_digit() {
             return None;
         }
-        value = value * 10 + (*byte - b'0') as u32;
+        value = value * 10 + u32::from(*byte - b'0');
     }
     Some(value)
 }

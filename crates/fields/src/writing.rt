@@ -22,20 +22,17 @@ fn digit_count(number: usize) -> usize
     ensures count { result ≡ length (numeral number) }
     ensures small { result ≤ 20 }
 {
-    if number < 10 {
-        1
-    } else {
-        digit_count(number / 10) + 1
-    }
+    number.checked_ilog10().unwrap_or(0) as usize + 1
 }
 
 // Writes a number's digits at the start of a space that has room for them, and says how many.
+// The library's `write!` to a slice promises nothing of the bytes in it, so the proof needs this one.
 fn put_number(number: usize, space: &mut [u8]) -> usize
     requires { length (numeral number) ≤ length space.old }
     ensures count { result ≡ length (numeral number) }
     ensures after { space.new ≡ overlaid (numeral number) space.old }
 {
-    let digit = (number % 10) as u8 + b'0';
+    let digit = b'0' + (number % 10) as u8;
     if number < 10 {
         space[0] = digit;
         return 1;
@@ -54,7 +51,7 @@ fn put_numbers(numbers: &[usize], space: &mut [u8]) -> usize
     let mut at = 0;
     for number in numbers {
         space[at] = b'\t';
-        at = at + 1 + put_number(*number, &mut space[at + 1..]);
+        at += 1 + put_number(*number, &mut space[at + 1..]);
     }
     at
 }
@@ -69,7 +66,7 @@ fn numbers_fit(numbers: &[usize], space: usize) -> bool
         if count >= room {
             return false;
         }
-        room = room - count - 1;
+        room -= count + 1;
     }
     true
 }

@@ -1,5 +1,5 @@
 -- A line that is refused is to blame for its fault, and so is the field that the fault names.
-use Rattle.std.proofs.Common.{◌≡◌, ℕ, ◌+◌, Bool, cond, eqb, ltb, List, length, is_some, Ok, Err, Result, ap, subst}
+use Rattle.std.proofs.Common.{◌≡◌, ℕ, ◌+◌, Bool, cond, eqb, ltb, List, length, is_some, Some, None, Ok, Err, Option, Result, ap, subst}
 use Rattle.std.proofs.lemmas.Bool.{cond_both}
 use Rattle.graphs.specs.declared.Tie.{Tie}
 use Rattle.fields.specs.Split.{split}
@@ -13,7 +13,7 @@ use Rattle.grammar.specs.declared.records.Record.TheVariants.{Graph, Vertex, Tie
 use Rattle.grammar.specs.declared.records.Stage.{Stage}
 use Rattle.grammar.specs.declared.records.Stage.TheVariants.{Opening, Vertices, Ties, Closed}
 use Rattle.grammar.specs.Labels.{Form, width}
-use Rattle.grammar.specs.Reading.{State, and_then, number_in, label_in, only, first_of, has_pair, graph_line, vertex_line, new_tie, tie_in, tie_line, end_line, letter_of, by_letter}
+use Rattle.grammar.specs.Reading.{State, and_then, number_in, label_in, only, first_of, has_pair, graph_line, vertex_line, new_tie, tie_in, tie_line, end_line, letter_of, by_letter, by_first}
 use Rattle.grammar.specs.Pointing.{FaultOf, ToBlame}
 use Rattle.grammar.proofs.Steps.{ok_err, same_err, then_err}
 use Rattle.grammar.proofs.FieldBlame.{Troubled, fields, size, number_blame, label_blame, tie_blame, field_two, field_three}
@@ -85,6 +85,10 @@ module _ {L : Type 0} (s : State L) (line : List ℕ) where
       fair_cond (eqb letter 116) _ _ (tie_fair form room.ties) (fair_cond (eqb letter 101) _ _ end_fair (fair_err Letter tt))
   letter_fair form room Closed letter = fair_err Letter tt
 
+  first_fair : (form : Form L) (room : Counts) (stage : Stage) (first : Option ℕ) → Fair (by_first form room stage (size s line) s.ties first (fields s line))
+  first_fair form room stage None = fair_err Letter tt
+  first_fair form room stage (Some letter) = letter_fair form room stage letter
+
   blame : (form : Form L) (room : Counts) (e : LineFault) → FaultOf form room s line e → Likely e → ToBlame form room s line e
   blame form room TextStops h l = absurd l
   blame form room NoLineFeed h l = absurd l
@@ -97,4 +101,4 @@ module _ {L : Type 0} (s : State L) (line : List ℕ) where
 
   -- a line that is refused
   pub line_blame : (form : Form L) (room : Counts) (e : LineFault) → FaultOf form room s line e → ToBlame form room s line e
-  line_blame form room e h = blame form room e h (letter_fair form room s.stage (letter_of (first_of (split 9 line))) e h)
+  line_blame form room e h = blame form room e h (first_fair form room s.stage (letter_of (first_of (split 9 line))) e h)

@@ -1,7 +1,8 @@
 -- A line that is taken is the line of the record that it is taken for, and the record is allowed.
-use Rattle.std.proofs.Common.{◌≡◌, ℕ, suc, ◌+◌, ◌<◌, true, cond, eqb, ltb, leb, List, [], ◌∷◌, ◌++◌, map, length, Ok, Err, Result, sym, ap, ◌∙◌, subst, arith}
+use Rattle.std.proofs.Common.{◌≡◌, ℕ, suc, ◌+◌, ◌<◌, true, cond, eqb, ltb, leb, List, [], ◌∷◌, ◌++◌, map, length, Some, None, Ok, Err, Option, Result, sym, ap, ◌∙◌, subst, arith}
 use Rattle.std.specs.List.{flat_map}
 use Rattle.std.proofs.lemmas.List.{nil_from_length}
+use Rattle.std.proofs.lemmas.Option.{none-some}
 use Rattle.std.proofs.lemmas.Bool.{cond_both, and_parts, eqb-true, eqb-false, leb-true, ltb-true}
 use Rattle.graphs.specs.declared.Tie.{Tie}
 use Rattle.fields.specs.Numbers.{numeral}
@@ -15,7 +16,7 @@ use Rattle.grammar.specs.declared.records.Record.TheVariants.{Graph, Vertex, Tie
 use Rattle.grammar.specs.declared.records.Stage.{Stage}
 use Rattle.grammar.specs.declared.records.Stage.TheVariants.{Opening, Vertices, Ties, Closed}
 use Rattle.grammar.specs.Labels.{Form, Faithful, inside, width}
-use Rattle.grammar.specs.Reading.{and_then, number_in, label_in, only, below, first_of, rest_of, has_pair, graph_line, vertex_line, new_tie, tie_in, tie_line, end_line, letter_of, by_letter, record_of}
+use Rattle.grammar.specs.Reading.{and_then, number_in, label_in, only, below, first_of, rest_of, has_pair, graph_line, vertex_line, new_tie, tie_in, tie_line, end_line, letter_of, by_letter, by_first, record_of}
 use Rattle.grammar.specs.Writing.{GoodLabel, GoodTie}
 use Rattle.grammar.proofs.Splits.{rejoined_split}
 use Rattle.grammar.proofs.Numerals.{numbers_fields}
@@ -107,21 +108,21 @@ module _ {L : Type 0} (form : Form L) (faith : Faithful form) (room : Counts) (n
   letter_ok Ties h = tail_ok Ties tt h
   letter_ok Closed h = absurd (err_ok Letter r h)
 
-first_letter : (f : List ℕ) (c : ℕ) → 0 < c → letter_of f ≡ c → f ≡ c ∷ []
-first_letter [] c h e = absurd (omega arith)
-first_letter (b ∷ []) c h e = ap (λ x. x ∷ []) e
-first_letter (b ∷ d ∷ bs) c h e = absurd (omega arith)
+first_letter : (f : List ℕ) (c : ℕ) → letter_of f ≡ Some c → f ≡ c ∷ []
+first_letter [] c e = absurd (none-some c e)
+first_letter (b ∷ []) c e = let z : b ≡ c = cc in ap (λ x. x ∷ []) z
+first_letter (b ∷ d ∷ bs) c e = absurd (none-some c e)
 
-letter_some : {L : Type 0} (r : Record L) → 0 < letter_for r
-letter_some Graph = omega arith
-letter_some (Vertex l) = omega arith
-letter_some (Tied t) = omega arith
-letter_some End = omega arith
+first_ok : {L : Type 0} (form : Form L) → Faithful form → (room : Counts) (stage : Stage) (n : ℕ) (ts : List (Tie L)) (first : Option ℕ) (fs : List (List ℕ)) (r : Record L)
+    → by_first form room stage n ts first fs ≡ Ok r → (first ≡ Some (letter_for r)) × (fs ≡ map numeral (numbers_for form r)) × Allowed form room stage n ts r
+first_ok form faith room stage n ts None fs r h = absurd (err_ok Letter r h)
+first_ok form faith room stage n ts (Some letter) fs r h =
+    let p = letter_ok form faith room n ts letter fs r stage h in (ap (λ l. Some l) p.0, p.1, p.2)
 
 -- a line that is taken
 pub line_ok : {L : Type 0} (form : Form L) → Faithful form → (room : Counts) (stage : Stage) (n : ℕ) (ts : List (Tie L)) (line : List ℕ) (r : Record L)
     → record_of form room stage n ts line ≡ Ok r → (line ≡ line_for form r) × Allowed form room stage n ts r
 line_ok form faith room stage n ts line r h =
-    let p = letter_ok form faith room n ts (letter_of (first_of (split 9 line))) (rest_of (split 9 line)) r stage h in
-    let f = first_letter (first_of (split 9 line)) (letter_for r) (letter_some r) p.0 in
+    let p = first_ok form faith room stage n ts (letter_of (first_of (split 9 line))) (rest_of (split 9 line)) r h in
+    let f = first_letter (first_of (split 9 line)) (letter_for r) p.0 in
     (sym (rejoined_split 9 line) ∙ (λ i. f i ++ flat_map (λ q. 9 ∷ q) (p.1 i)) ∙ ap (λ bs. letter_for r ∷ bs) (numbers_fields (numbers_for form r)), p.2)

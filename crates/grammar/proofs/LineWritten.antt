@@ -9,19 +9,19 @@ use Rattle.faults.specs.declared.FieldTrouble.TheVariants.{LabelCount, MissingVe
 use Rattle.faults.specs.declared.FieldFault.{FieldFault}
 use Rattle.faults.specs.declared.LineFault.TheVariants.{InField, NoRoom}
 use Rattle.grammar.specs.declared.records.Counts.{Counts}
-use Rattle.grammar.specs.declared.records.Range.{Range}
+use Rattle.std.specs.declared.ops.Range.{Range}
 use Rattle.grammar.specs.declared.records.Record.{Record}
 use Rattle.grammar.specs.declared.records.Record.TheVariants.{Graph, Vertex, Tied, End}
 use Rattle.grammar.specs.declared.records.Stage.{Stage}
 use Rattle.grammar.specs.declared.records.Stage.TheVariants.{Opening, Vertices, Ties, Closed}
 use Rattle.grammar.specs.Labels.{Form, Faithful, inside, width, numbers_of}
-use Rattle.grammar.specs.Reading.{and_then, number_in, label_in, only, below, first_of, rest_of, has_pair, graph_line, vertex_line, new_tie, tie_in, tie_line, letter_of, by_letter, record_of}
+use Rattle.grammar.specs.Reading.{and_then, number_in, label_in, only, below, first_of, rest_of, has_pair, graph_line, vertex_line, new_tie, tie_in, tie_line, letter_of, by_letter, by_first, record_of}
 use Rattle.grammar.specs.Writing.{GoodLabel, GoodTie}
 use Rattle.grammar.proofs.Numerals.{Small, line_split, text_split}
 use Rattle.grammar.proofs.LabelLaws.{number_in_lem, label_in_lem, label_small, label_width}
 use Rattle.grammar.proofs.Sayings.{letter_for, numbers_for, line_for, text_for, Allowed}
 
-width_small : (o : Option Range) → Small (elim o [ None ↦ 1 | Some r ↦ 2 ])
+width_small : (o : Option (Range ℕ)) → Small (elim o [ None ↦ 1 | Some r ↦ 2 ])
 width_small None = omega arith
 width_small (Some r) = omega arith
 
@@ -99,7 +99,7 @@ module _ {L : Type 0} (form : Form L) where
   pub line_in : Faithful form → (room : Counts) (stage : Stage) (n : ℕ) (ts : List (Tie L)) (r : Record L) → n ≤ 10 ^ 9 → Allowed form room stage n ts r
       → record_of form room stage n ts (line_for form r) ≡ Ok r
   line_in faith room stage n ts r w a =
-      ap (λ ps. by_letter form room stage n ts (letter_of (first_of ps)) (rest_of ps)) (line_split (letter_for r) (numbers_for form r) (letter_far r) (record_small faith room stage n ts r w a))
+      ap (λ ps. by_first form room stage n ts (letter_of (first_of ps)) (rest_of ps)) (line_split (letter_for r) (numbers_for form r) (letter_far r) (record_small faith room stage n ts r w a))
       ∙ letter_in faith room stage n ts r w a
 
   -- and it is the first line of a text that begins with it

@@ -3,6 +3,7 @@ use Rattle.std.proofs.Common.{◌≡◌, ℕ, false, eqb, List, [], ◌∷◌, �
 use Rattle.std.specs.List.{flat_map, AllByRecursion}
 use Rattle.std.proofs.lemmas.List.{append-nil}
 use Rattle.std.proofs.lemmas.Bool.{cond-true, cond-false, cond_both, eq-eqb, eqb-true}
+use Rattle.fields.proofs.Splits.{some_piece}
 use Rattle.fields.specs.Split.{split, ahead, ended}
 use Rattle.grammar.specs.Reading.{first_of, rest_of}
 
@@ -22,16 +23,6 @@ ahead_more : (b : ℕ) (xs : List ℕ) (fs : List (List ℕ)) → ahead (b ∷ [
 ahead_more b xs [] = refl
 ahead_more b xs (f ∷ fs) = refl
 
-ahead_some : (xs : List ℕ) (fs : List (List ℕ)) → ended (ahead xs fs) ≡ ended fs
-ahead_some xs [] = refl
-ahead_some xs (f ∷ fs) = refl
-
--- a text has a piece
-pub split_some : (s : ℕ) (bs : List ℕ) → ended (split s bs) ≡ false
-split_some s [] = refl
-split_some s (b ∷ bs) =
-    cond_both (eqb b s) ([] ∷ split s bs) (ahead (b ∷ []) (split s bs)) (λ ps. ended ps ≡ false) (λ _. refl) (λ _. ahead_some (b ∷ []) (split s bs) ∙ split_some s bs)
-
 rejoined_ahead : (s b : ℕ) (fs : List (List ℕ)) → ended fs ≡ false → rejoined s (ahead (b ∷ []) fs) ≡ b ∷ rejoined s fs
 rejoined_ahead s b [] h = absurd (let o : ◌≡◌ {A = ℕ} 0 1 = cc in omega arith)
 rejoined_ahead s b (f ∷ fs) h = refl
@@ -45,8 +36,8 @@ pub rejoined_split : (s : ℕ) (bs : List ℕ) → rejoined s (split s bs) ≡ b
 rejoined_split s [] = refl
 rejoined_split s (b ∷ bs) =
     cond_both (eqb b s) ([] ∷ split s bs) (ahead (b ∷ []) (split s bs)) (λ ps. rejoined s ps ≡ b ∷ bs)
-    (λ t. rejoined_none s (split s bs) (split_some s bs) ∙ (λ i. sym (eqb-true b s t) i ∷ rejoined_split s bs i))
-    (λ f. rejoined_ahead s b (split s bs) (split_some s bs) ∙ ap (λ cs. b ∷ cs) (rejoined_split s bs))
+    (λ t. rejoined_none s (split s bs) (some_piece s bs) ∙ (λ i. sym (eqb-true b s t) i ∷ rejoined_split s bs i))
+    (λ f. rejoined_ahead s b (split s bs) (some_piece s bs) ∙ ap (λ cs. b ∷ cs) (rejoined_split s bs))
 
 split_ahead : (s : ℕ) (xs ys : List ℕ) → Without s xs → split s (xs ++ ys) ≡ ahead xs (split s ys)
 split_ahead s [] ys h = ahead_none (split s ys)

@@ -16,7 +16,7 @@ use Rattle.grammar.specs.declared.records.Stage.TheVariants.{Vertices, Ties, Clo
 use Rattle.grammar.specs.Labels.{Form, Faithful, width}
 use Rattle.grammar.specs.Reading.{State, Outcome, start, added, read_on, reading, most_bytes}
 use Rattle.grammar.specs.Writing.{vertex_text, tie_text, graph_text, GoodLabel, GoodTie, Different, GraphText}
-use Rattle.grammar.proofs.Splits.{split_some}
+use Rattle.fields.proofs.Splits.{some_piece}
 use Rattle.grammar.proofs.LineWritten.{line_in, first_line}
 use Rattle.grammar.proofs.Pairs.{different_before}
 use Rattle.grammar.proofs.Sayings.{text_for, InGraph, Allowed}
@@ -33,7 +33,7 @@ module _ {L : Type 0} (form : Form L) (faith : Faithful form) (room : Counts) (n
       → on s k (text_for form r ++ rest) ≡ on (added s r) (k + 1) rest
   step s k r rest w a =
       ap (read_on form room number s k) (first_line form faith room s.stage (length s.labels) s.ties r rest w a)
-      ∙ cond-false (ended (split 10 rest)) _ _ (split_some 10 rest)
+      ∙ cond-false (ended (split 10 rest)) _ _ (some_piece 10 rest)
       ∙ ap (λ (q : Result (Record L) LineFault). elim q [
         | Ok r ↦ read_on form room number (added s r) (k + 1) (split 10 rest)
         | Err e ↦ record { state = s; answer = Err (InLine (record { text = number; line = k; fault = e })) }

@@ -11,7 +11,7 @@ use Rattle.faults.specs.declared.LineFault.TheVariants.{TextStops, NoLineFeed, L
 use Rattle.faults.specs.declared.TextFault.{TextFault}
 use Rattle.faults.specs.declared.TextFault.TheVariants.{TooLong, InLine}
 use Rattle.grammar.specs.declared.records.Counts.{Counts}
-use Rattle.grammar.specs.declared.records.Range.{Range}
+use Rattle.std.specs.declared.ops.Range.{Range}
 use Rattle.grammar.specs.declared.records.Record.{Record}
 use Rattle.grammar.specs.declared.records.Record.TheVariants.{Graph, Vertex, Tied, End}
 use Rattle.grammar.specs.declared.records.Stage.{Stage}
@@ -36,26 +36,26 @@ abbrev pub rest_of : List (List ℕ) → List (List ℕ)
 rest_of [] = []
 rest_of (f ∷ fs) = fs
 
-abbrev pub judged : ℕ → Range → FieldTrouble → Option ℕ → Result ℕ FieldFault
+abbrev pub judged : ℕ → Range ℕ → FieldTrouble → Option ℕ → Result ℕ FieldFault
 judged k range trouble None = Err (record { field = k; trouble = NoNumber })
 judged k range trouble (Some n) = cond (inside range n) (Ok n) (Err (record { field = k; trouble = trouble }))
 
 -- the number in field k of a line, within a range
-abbrev pub number_in : ℕ → Range → FieldTrouble → List ℕ → Result ℕ FieldFault
+abbrev pub number_in : ℕ → Range ℕ → FieldTrouble → List ℕ → Result ℕ FieldFault
 number_in k range trouble bytes = judged k range trouble (number_of bytes)
 
 -- the label in the fields from k on
-abbrev pub second_in : {L : Type 0} → Form L → Option Range → ℕ → ℕ → List (List ℕ) → Result L FieldFault
+abbrev pub second_in : {L : Type 0} → Form L → Option (Range ℕ) → ℕ → ℕ → List (List ℕ) → Result L FieldFault
 second_in form None k a fs = Ok (form.make a 0)
 second_in form (Some range) k a fs = and_then (λ e. e) (number_in (k + 1) range OutOfRange (first_of fs)) (λ b. Ok (form.make a b))
 
 abbrev pub label_in : {L : Type 0} → Form L → ℕ → List (List ℕ) → Result L FieldFault
 label_in form k fs = and_then (λ e. e) (number_in k form.first OutOfRange (first_of fs)) (λ a. second_in form form.second k a (rest_of fs))
 
-abbrev pub only : ℕ → Range
+abbrev pub only : ℕ → Range ℕ
 only n = record { start = n; end = n + 1 }
 
-abbrev pub below : ℕ → Range
+abbrev pub below : ℕ → Range ℕ
 below n = record { start = 0; end = n }
 
 -- whether a tie of the list runs from one vertex to another
@@ -96,11 +96,11 @@ tie_line form room n ts fs =
 abbrev pub end_line : {L : Type 0} → List (List ℕ) → Result (Record L) LineFault
 end_line fs = cond (length fs == 0) (Ok End) (Err FieldCount)
 
--- the letter that is a field, or 0 where the field is not one byte
-abbrev pub letter_of : List ℕ → ℕ
-letter_of [] = 0
-letter_of (b ∷ []) = b
-letter_of (b ∷ c ∷ bs) = 0
+-- the letter that is a field; none where the field is not one byte
+abbrev pub letter_of : List ℕ → Option ℕ
+letter_of [] = None
+letter_of (b ∷ []) = Some b
+letter_of (b ∷ c ∷ bs) = None
 
 -- what a line says by its letter: 103 is `g`, 110 `n`, 116 `t`, 101 `e`. All `n` lines stand before the `t` lines.
 abbrev pub by_letter : {L : Type 0} → Form L → Counts → Stage → ℕ → List (Tie L) → ℕ → List (List ℕ) → Result (Record L) LineFault
@@ -112,8 +112,13 @@ by_letter form room Ties n ts letter fs =
     cond (letter == 116) (tie_line form room.ties n ts fs) (cond (letter == 101) (end_line fs) (Err Letter))
 by_letter form room Closed n ts letter fs = Err Letter
 
+-- a line without a letter is refused as one with a wrong letter
+abbrev pub by_first : {L : Type 0} → Form L → Counts → Stage → ℕ → List (Tie L) → Option ℕ → List (List ℕ) → Result (Record L) LineFault
+by_first form room stage n ts None fs = Err Letter
+by_first form room stage n ts (Some letter) fs = by_letter form room stage n ts letter fs
+
 abbrev pub record_of : {L : Type 0} → Form L → Counts → Stage → ℕ → List (Tie L) → List ℕ → Result (Record L) LineFault
-record_of form room stage n ts line = by_letter form room stage n ts (letter_of (first_of (split 9 line))) (rest_of (split 9 line))
+record_of form room stage n ts line = by_first form room stage n ts (letter_of (first_of (split 9 line))) (rest_of (split 9 line))
 
 -- what the lines so far have said
 pub record State (L : Type 0) : Type 0 where

@@ -2,15 +2,8 @@
 
 use graphs::Tie;
 
-// The numbers from `start` up to, and without, `end`.
-#[derive(Clone, Copy)]
-pub struct Range {
-    pub start: usize,
-    pub end: usize,
-}
-
 // How far a text is read: nothing yet, its head, some of its ties, or its end.
-#[derive(Clone, Copy)]
+#[derive(Clone, Copy, PartialEq, Eq, Debug)]
 pub enum Stage {
     Opening,
     Vertices,
@@ -19,7 +12,7 @@ pub enum Stage {
 }
 
 // What a line says: that a graph text begins, a vertex by its label, a tie, or that the text ends.
-#[derive(Clone, Copy)]
+#[derive(Clone, Copy, PartialEq, Eq, Debug)]
 pub enum Record<L> {
     Graph,
     Vertex(L),

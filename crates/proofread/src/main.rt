@@ -35,13 +35,12 @@ fn proofread(rt: &HostRuntime, name: &str) -> anyhow::Result<()> {
 }
 
 fn run(rt: &HostRuntime) -> anyhow::Result<()> {
-    let mut named = false;
-    for name in env::args(rt)?.skip(1) {
-        named = true;
-        proofread(rt, name.as_str())?;
+    let mut names = env::args(rt)?.skip(1).peekable();
+    if names.peek().is_none() {
+        return proofread(rt, DEFAULT_FILE);
     }
-    if !named {
-        proofread(rt, DEFAULT_FILE)?;
+    for name in names {
+        proofread(rt, name.as_str())?;
     }
     Ok(())
 }

@@ -1,8 +1,6 @@
 // What the lists hold after a text is taken or refused.
 
 use super::samples::{refused, taken};
-use faults::TextFault;
-use grammar::Counts;
 use graphs::{Code, Pay, Tie};
 use std::test::Fail;
 use texts::read_graph;

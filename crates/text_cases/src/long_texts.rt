@@ -1,8 +1,6 @@
 // Texts of just as many bytes as may be, and of one more.
 
 use super::samples::{NO_CODE, refused, taken};
-use faults::TextFault;
-use grammar::Counts;
 use graphs::{Code, Tie};
 use std::alloc::{AllocError, Global};
 use std::test::Fail;

@@ -11,26 +11,24 @@ pub const NO_CODE: Code = Code { number: 0 };
 
 pub const NO_PAY: Pay = Pay { kind: 0, pence: 0 };
 
-// Reads a text with codes, as text 1, where there is room for three vertices and two ties.
-pub fn read_codes(text: &[u8]) -> Result<Counts, TextFault> {
-    let mut vertices = [NO_CODE; 3];
-    let mut ties = [Tie {
+// A tie as the lists hold them before a text is read.
+fn blank<L>(label: L) -> Tie<L> {
+    Tie {
         from: 0,
         to: 0,
-        label: NO_CODE,
-    }; 2];
-    read_graph(text, 1, &mut vertices, &mut ties)
+        label,
+    }
 }
 
-// Reads a text with pay labels, as text 2, where there is room for three vertices and two ties.
+// Reads a text with codes, as text 1, where there is room for three vertices and two ties.
+// No proof knows how large an array of a type parameter is, so each label type has a function of its own.
+pub fn read_codes(text: &[u8]) -> Result<Counts, TextFault> {
+    read_graph(text, 1, &mut [NO_CODE; 3], &mut [blank(NO_CODE); 2])
+}
+
+// The same with pay labels, as text 2.
 pub fn read_pay(text: &[u8]) -> Result<Counts, TextFault> {
-    let mut vertices = [NO_PAY; 3];
-    let mut ties = [Tie {
-        from: 0,
-        to: 0,
-        label: NO_PAY,
-    }; 2];
-    read_graph(text, 2, &mut vertices, &mut ties)
+    read_graph(text, 2, &mut [NO_PAY; 3], &mut [blank(NO_PAY); 2])
 }
 
 // Checks that a text was refused with these numbers.

@@ -1,7 +1,6 @@
 // Measures how long the graph reader takes for the longest texts: what was read goes to standard output, and the time to standard error.
 #![tactic(auto)]
 
-use faults::TextFault;
 use grammar::Counts;
 use graphs::{Code, Tie};
 use std::alloc::{AllocError, Global};
@@ -13,36 +12,35 @@ const NO_CODE: Code = Code { number: 0 };
 // How many vertices the text of ties has: enough for as many different pairs as fit.
 const ENDS: usize = 310;
 
+// How many vertex lines, of four bytes each, fit between the first line and the last, which have six.
+const ROWS: usize = (MOST_BYTES - 6) / 4;
+
 // As many vertex lines as fit.
-fn vertices_text(heap: Global) -> Result<Vec<u8>, AllocError> {
-    let mut text = Vec::with_capacity(heap, MOST_BYTES)?;
-    text.extend_from_slice(b"g\t1\n")?;
-    for _ in 0..MOST_BYTES {
-        if text.len() > MOST_BYTES - 6 {
-            break;
-        }
-        text.extend_from_slice(b"n\t7\n")?;
+fn vertices_text(heap: Global) -> Result<String, AllocError> {
+    let mut text = String::with_capacity(heap, MOST_BYTES)?;
+    text.push_str("g\t1\n")?;
+    for _ in 0..ROWS {
+        text.push_str("n\t7\n")?;
     }
-    text.extend_from_slice(b"e\n")?;
+    text.push_str("e\n")?;
     Ok(text)
 }
 
 // As many tie lines as fit, each with another pair.
-fn ties_text(heap: Global) -> Result<Vec<u8>, AllocError> {
-    let mut text = Vec::with_capacity(heap, MOST_BYTES)?;
-    text.extend_from_slice(b"g\t1\n")?;
+fn ties_text(heap: Global) -> Result<String, AllocError> {
+    let mut text = String::with_capacity(heap, MOST_BYTES)?;
+    text.push_str("g\t1\n")?;
     for _ in 0..ENDS {
-        text.extend_from_slice(b"n\t7\n")?;
+        text.push_str("n\t7\n")?;
     }
     for from in 0..ENDS {
         for to in 0..ENDS {
             if from != to && text.len() < MOST_BYTES - 20 {
-                let row = format!(in heap; "t\t{from}\t{to}\t5\n")?;
-                text.extend_from_slice(row.as_bytes())?;
+                write!(text, "t\t{from}\t{to}\t5\n")?;
             }
         }
     }
-    text.extend_from_slice(b"e\n")?;
+    text.push_str("e\n")?;
     Ok(text)
 }
 
@@ -61,11 +59,7 @@ fn measure(rt: &HostRuntime, name: &str, text: &[u8]) -> anyhow::Result<()> {
     let time = start.elapsed(rt)?;
     let micros = time.as_micros();
     match read {
-        Ok(counts) => {
-            let n = counts.vertices;
-            let m = counts.ties;
-            println!(rt; "{name}: {n} vertices, {m} ties")?;
-        }
+        Ok(Counts { vertices, ties }) => println!(rt; "{name}: {vertices} vertices, {ties} ties")?,
         Err(_) => println!(rt; "{name}: refused")?,
     }
     eprintln!(rt; "{name}: {micros} microseconds")?;
@@ -75,9 +69,9 @@ fn measure(rt: &HostRuntime, name: &str, text: &[u8]) -> anyhow::Result<()> {
 fn run(rt: &HostRuntime) -> anyhow::Result<()> {
     let heap = rt.alloc();
     let vertices = vertices_text(heap)?;
-    measure(rt, "vertices", vertices.as_slice())?;
+    measure(rt, "vertices", vertices.as_bytes())?;
     let ties = ties_text(heap)?;
-    measure(rt, "ties", ties.as_slice())
+    measure(rt, "ties", ties.as_bytes())
 }
 
 fn main(rt: HostRuntime) -> anyhow::Result<()> {

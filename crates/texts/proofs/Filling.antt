@@ -1,13 +1,11 @@
 -- What the reader's loop keeps: what is left reads, after what was stored, as the whole text does, and the rest of the lists is as it was.
-use Rattle.std.proofs.Common.{◌≡◌, ℕ, ◌+◌, ◌<◌, ◌≤◌, false, List, ◌∷◌, length, take, set, Ok, Err, Result, sym, refl, ap, ◌∙◌, subst, arith}
+use Rattle.std.proofs.Common.{◌≡◌, ℕ, ◌+◌, ◌<◌, ◌≤◌, false, List, ◌∷◌, length, take, set, Ok, Err, sym, refl, ap, ◌∙◌, subst, arith}
 use Rattle.std.proofs.lemmas.List.{length-take-le, length-set, take_more_set}
 use Rattle.std.proofs.lemmas.Bool.{cond-false}
 use Rattle.graphs.specs.declared.Tie.{Tie}
 use Rattle.fields.specs.Lines.{overlaid}
 use Rattle.fields.specs.Split.{ended}
 use Rattle.fields.proofs.Overlaid.{overlaid_push}
-use Rattle.faults.specs.declared.FaultyLine.{FaultyLine}
-use Rattle.faults.specs.declared.LineFault.{LineFault}
 use Rattle.faults.specs.declared.TextFault.TheVariants.{InLine}
 use Rattle.grammar.specs.declared.records.Counts.{Counts}
 use Rattle.grammar.specs.declared.records.Record.{Record}
@@ -16,7 +14,7 @@ use Rattle.grammar.specs.Labels.{Form}
 use Rattle.grammar.specs.Reading.{State, Outcome, read_on, reading, record_of, added}
 use Rattle.texts.specs.declared.reader.Progress.{Progress}
 use Rattle.texts.specs.Graphs.{room_in}
-use Rattle.texts.specs.Storing.{stage_after, counts_after, vertices_after, ties_after, HasRoom, placed_at}
+use Rattle.texts.specs.Storing.{stage_after, counts_after, vertices_after, ties_after, HasRoom}
 use Rattle.texts.proofs.Room.{has_room}
 
 -- what is stored so far
@@ -31,15 +29,6 @@ abbrev pub Filling : {L : Type 0} → Form L → ℕ → List ℕ → List L →
 Filling form number text vs₀ ts₀ p vs ts k lines =
     (read_on form (room_in vs₀ ts₀) number (stored p vs ts) k lines ≡ reading form (room_in vs₀ ts₀) number text)
     × Front p.counts.vertices vs vs₀ × Front p.counts.ties ts ts₀
-
--- a placed fault is none where the line has none
-placed_ok : {X : Type 0} (text k : ℕ) (r : Result X LineFault) (x : X) → placed_at text k r ≡ Ok x → r ≡ Ok x
-placed_ok text k (Ok y) x e = cc
-placed_ok text k (Err f) x e = absurd (let z : ◌≡◌ {A = ℕ} 0 1 = cc in omega arith)
-
--- so what the line reads as is what was said
-pub read_ok : {X : Type 0} (text k : ℕ) (q r : Result X LineFault) (p : Result X FaultyLine) (x : X) → r ≡ q → p ≡ placed_at text k r → p ≡ Ok x → q ≡ Ok x
-read_ok text k q r p x e f g = sym e ∙ placed_ok text k r x (sym f ∙ g)
 
 -- a line that is taken: what is left reads on from what it adds
 reads_on : {L : Type 0} (form : Form L) (room : Counts) (number : ℕ) (s : State L) (k : ℕ) (line : List ℕ) (lines : List (List ℕ)) (r : Record L)

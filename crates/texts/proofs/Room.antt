@@ -1,5 +1,5 @@
 -- A line that is taken has room for what it says.
-use Rattle.std.proofs.Common.{◌≡◌, ℕ, Bool, true, cond, eqb, ltb, List, length, Ok, Err, Result, subst}
+use Rattle.std.proofs.Common.{◌≡◌, ℕ, Bool, true, cond, eqb, ltb, List, length, Some, None, Ok, Err, Option, Result, subst}
 use Rattle.std.proofs.lemmas.Bool.{cond_both, ltb-true}
 use Rattle.graphs.specs.declared.Tie.{Tie}
 use Rattle.fields.specs.Split.{split}
@@ -12,7 +12,7 @@ use Rattle.grammar.specs.declared.records.Record.TheVariants.{Graph, Vertex, Tie
 use Rattle.grammar.specs.declared.records.Stage.{Stage}
 use Rattle.grammar.specs.declared.records.Stage.TheVariants.{Opening, Vertices, Ties, Closed}
 use Rattle.grammar.specs.Labels.{Form, width}
-use Rattle.grammar.specs.Reading.{and_then, number_in, only, first_of, rest_of, letter_of, label_in, tie_in, has_pair, graph_line, vertex_line, new_tie, tie_line, end_line, by_letter, record_of}
+use Rattle.grammar.specs.Reading.{and_then, number_in, only, first_of, rest_of, letter_of, label_in, tie_in, has_pair, graph_line, vertex_line, new_tie, tie_line, end_line, by_letter, by_first, record_of}
 use Rattle.texts.specs.Storing.{HasRoom}
 
 module _ {L : Type 0} (form : Form L) (room : Counts) (n : ℕ) (ts : List (Tie L)) where
@@ -75,7 +75,11 @@ module _ {L : Type 0} (form : Form L) (room : Counts) (n : ℕ) (ts : List (Tie 
   roomy_letter Ties letter fs = either (eqb letter 116) _ _ (λ _. roomy_tie fs) (either (eqb letter 101) _ _ (λ _. roomy_end fs) (err Letter))
   roomy_letter Closed letter fs = err Letter
 
+  roomy_first : (stage : Stage) (first : Option ℕ) (fs : List (List ℕ)) → Roomy (by_first form room stage n ts first fs)
+  roomy_first stage None fs = err Letter
+  roomy_first stage (Some letter) fs = roomy_letter stage letter fs
+
   pub has_room : (stage : Stage) (line : List ℕ) (r : Record L) → record_of form room stage n ts line ≡ Ok r
       → HasRoom r (record { vertices = n; ties = length ts }) room.vertices room.ties
   unfolding Roomy
-  has_room stage line r e = subst Roomy e (roomy_letter stage (letter_of (first_of (split 9 line))) (rest_of (split 9 line)))
+  has_room stage line r e = subst Roomy e (roomy_first stage (letter_of (first_of (split 9 line))) (rest_of (split 9 line)))

@@ -1,18 +1,11 @@
 -- What the reader's lists hold after a line is stored.
-use Rattle.std.specs.Prelude.{ℕ, ◌+◌, ◌<◌, List, Ok, Err, Result, slice_set}
+use Rattle.std.specs.Prelude.{ℕ, ◌+◌, ◌<◌, List, slice_set}
 use Rattle.graphs.specs.declared.Tie.{Tie}
-use Rattle.faults.specs.declared.LineFault.{LineFault}
-use Rattle.faults.specs.declared.FaultyLine.{FaultyLine}
 use Rattle.grammar.specs.declared.records.Counts.{Counts}
 use Rattle.grammar.specs.declared.records.Record.{Record}
 use Rattle.grammar.specs.declared.records.Record.TheVariants.{Graph, Vertex, Tied, End}
 use Rattle.grammar.specs.declared.records.Stage.{Stage}
 use Rattle.grammar.specs.declared.records.Stage.TheVariants.{Vertices, Ties, Closed}
-
--- a line's fault with the text's number and its own
-abbrev pub placed_at : {X : Type 0} → ℕ → ℕ → Result X LineFault → Result X FaultyLine
-placed_at text line (Ok x) = Ok x
-placed_at text line (Err e) = Err (record { text = text; line = line; fault = e })
 
 -- the list that the record goes to has a free entry
 abbrev pub HasRoom : {L : Type 0} → Record L → Counts → ℕ → ℕ → Type 0

@@ -4,20 +4,14 @@ ghost use Rattle.std.specs.Prelude.{◌≡◌};
 ghost use Rattle.grammar.proofs.Forms.{code_faithful, pay_faithful};
 ghost use Rattle.grammar.specs.Labels.{Form, Faithful, code_form, pay_form};
 
-use grammar::Range;
 use graphs::{Code, Pay};
+use std::ops::Range;
 
 // The numbers that a code or a kind may be.
-pub const CODES: Range = Range {
-    start: 1,
-    end: 10_000,
-};
+pub const CODES: Range<usize> = 1..10_000;
 
 // The numbers that an amount in pence may be.
-pub const PENCE: Range = Range {
-    start: 0,
-    end: 1_000_000_000,
-};
+pub const PENCE: Range<usize> = 0..1_000_000_000;
 
 // A type of labels, written in one or two fields of numbers.
 pub trait Label: Copy {
@@ -25,14 +19,15 @@ pub trait Label: Copy {
     ghost form: { Form Self };
 
     // The numbers that the first field allows.
-    fn first() -> Range
+    fn first() -> Range<usize>
         ensures { result ≡ form.first };
 
     // The numbers that the second field allows, where there is a second field.
-    fn second() -> Option<Range>
+    fn second() -> Option<Range<usize>>
         ensures { result ≡ form.second };
 
     // The label that the fields' numbers make; a type of one field passes over the second.
+    // An Option would be no plainer: a type of two fields would have to make a label without the second, too.
     fn make(first: u32, second: u32) -> Self
         ensures { result ≡ form.make first second };
 
@@ -45,11 +40,11 @@ impl Label for Code {
 
     ghost faithful = { code_faithful };
 
-    fn first() -> Range {
+    fn first() -> Range<usize> {
         CODES
     }
 
-    fn second() -> Option<Range> {
+    fn second() -> Option<Range<usize>> {
         None
     }
 
@@ -63,11 +58,11 @@ impl Label for Pay {
 
     ghost faithful = { pay_faithful };
 
-    fn first() -> Range {
+    fn first() -> Range<usize> {
         CODES
     }
 
-    fn second() -> Option<Range> {
+    fn second() -> Option<Range<usize>> {
         Some(PENCE)
     }
 

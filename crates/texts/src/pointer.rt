@@ -10,16 +10,12 @@ use fields::Pieces;
 fn find_piece<'a>(text: &'a [u8], separator: u8, place: usize) -> Option<&'a [u8]>
     ensures { MatchOption result (piece_at separator place text.now ≡ []) (λ piece. piece.now ≡ piece_at separator place text.now) }
 {
-    let mut pieces = Pieces::new(text, separator);
-    while let Some(piece) = pieces.next() {
-        if piece.place == place {
-            return Some(piece.bytes);
-        }
-    }
-    None
+    let piece = Pieces::new(text, separator).nth(place.checked_sub(1)?)?;
+    Some(piece.bytes)
 }
 
 // The field of a text's line, or the line for field 0; none where the text has no such line or field.
+// The two are numbers of a refusal, where 0 stands for none (a rule of the project).
 fn find_field<'a>(text: &'a [u8], line: usize, field: usize) -> Option<&'a [u8]>
     ensures { MatchOption result (field_at field (line_at line text.now) ≡ []) (λ bytes. bytes.now ≡ field_at field (line_at line text.now)) }
 {
@@ -37,8 +33,5 @@ pub fn point<'a>(first: &'a [u8], second: &'a [u8], fault: TextFault) -> &'a [u8
 {
     let refusal = fault.refusal();
     let text = if refusal.text == 2 { second } else { first };
-    match find_field(text, refusal.line, refusal.field) {
-        Some(bytes) => bytes,
-        None => &text[text.len()..],
-    }
+    find_field(text, refusal.line, refusal.field).unwrap_or(&text[text.len()..])
 }

@@ -3,10 +3,10 @@
 ghost use Rattle.std.specs.Prelude.{◌≡◌, ℕ, ◌+◌, ◌<◌, ◌≤◌, length, take};
 ghost use Rattle.grammar.specs.Reading.{closing, record_of};
 ghost use Rattle.texts.specs.Graphs.{Read, Exact, Blames};
-ghost use Rattle.texts.specs.Storing.{placed_at, HasRoom, stage_after, counts_after, vertices_after, ties_after};
+ghost use Rattle.texts.specs.Storing.{HasRoom, stage_after, counts_after, vertices_after, ties_after};
 
 use super::labels::Label;
-use super::lines::read_line;
+use super::lines::SoFar;
 use faults::{FaultyLine, LineFault, TextFault};
 use fields::Pieces;
 use grammar::{Counts, Record, Stage};
@@ -31,89 +31,68 @@ const START: Progress = Progress {
     },
 };
 
-// What the next line says, after those by which the reader has come so far and filled the front of a list of ties.
-fn read_next<L: Label>(
-    line: &[u8],
-    progress: Progress,
-    ties: &[Tie<L>],
-    room: Counts,
-) -> Result<Record<L>, LineFault>
-    requires { progress.counts.ties ≤ length ties.now }
-    ensures { result ≡ record_of L.Label.form room progress.stage progress.counts.vertices (take progress.counts.ties ties.now) line.now }
-{
-    let tied = progress.counts.ties;
-    read_line(
-        line,
-        progress.stage,
-        progress.counts.vertices,
-        &ties[0..tied],
-        room,
-    )
-}
-
-// A line's fault with its place.
-fn placed<T>(read: Result<T, LineFault>, text: usize, line: usize) -> Result<T, FaultyLine>
-    ensures { result ≡ placed_at text line read }
-{
-    match read {
-        Ok(value) => Ok(value),
-        Err(fault) => Err(FaultyLine { text, line, fault }),
+impl Progress {
+    // What the next line says, after those by which the reader has come so far and filled the front of a list of ties.
+    fn read_next<L: Label>(
+        self,
+        line: &[u8],
+        ties: &[Tie<L>],
+        room: Counts,
+    ) -> Result<Record<L>, LineFault>
+        requires { self.counts.ties ≤ length ties.now }
+        ensures { result ≡ record_of L.Label.form room self.stage self.counts.vertices (take self.counts.ties ties.now) line.now }
+    {
+        let tied = self.counts.ties;
+        let so_far = SoFar {
+            stage: self.stage,
+            vertices: self.counts.vertices,
+            ties: &ties[..tied],
+            room,
+        };
+        so_far.read_line(line)
     }
-}
 
-// The answer once only `rest` is left after the last line feed of a text, as line `line`.
-fn close(progress: Progress, text: usize, line: usize, rest: &[u8]) -> Result<Counts, TextFault>
-    ensures { result ≡ closing progress.stage progress.counts text line rest.now }
-{
-    if rest.len() > 0 {
-        return Err(TextFault::InLine(FaultyLine {
-            text,
-            line,
-            fault: LineFault::NoLineFeed,
-        }));
+    // The answer once only `rest` is left after the last line feed of a text, as line `line`.
+    fn close(self, text: usize, line: usize, rest: &[u8]) -> Result<Counts, TextFault>
+        ensures { result ≡ closing self.stage self.counts text line rest.now }
+    {
+        let fault = match self.stage {
+            _ if !rest.is_empty() => LineFault::NoLineFeed,
+            Stage::Closed => return Ok(self.counts),
+            _ => LineFault::TextStops,
+        };
+        Err(TextFault::InLine(FaultyLine { text, line, fault }))
     }
-    match progress.stage {
-        Stage::Closed => Ok(progress.counts),
-        _ => Err(TextFault::InLine(FaultyLine {
-            text,
-            line,
-            fault: LineFault::TextStops,
-        })),
-    }
-}
 
-// Stores what a line says in the next free entry of its list, and says how far that leads.
-fn store<L: Label>(
-    said: Record<L>,
-    progress: Progress,
-    vertices: &mut [L],
-    ties: &mut [Tie<L>],
-) -> Progress
-    requires { HasRoom said progress.counts (length vertices.old) (length ties.old) }
-    ensures stage { result.stage ≡ stage_after said }
-    ensures counts { result.counts ≡ counts_after said progress.counts }
-    ensures vertices { vertices.new ≡ vertices_after said progress.counts vertices.old }
-    ensures ties { ties.new ≡ ties_after said progress.counts ties.old }
-{
-    let mut counts = progress.counts;
-    let stage = match said {
-        Record::Graph => Stage::Vertices,
-        Record::Vertex(label) => {
-            vertices[counts.vertices] = label;
-            counts.vertices += 1;
-            Stage::Vertices
-        }
-        Record::Tied(tie) => {
-            ties[counts.ties] = tie;
-            counts.ties += 1;
-            Stage::Ties
-        }
-        Record::End => Stage::Closed,
-    };
-    Progress { stage, counts }
+    // Stores what a line says in the next free entry of its list, and says how far that leads.
+    fn store<L: Label>(self, said: Record<L>, vertices: &mut [L], ties: &mut [Tie<L>]) -> Progress
+        requires { HasRoom said self.counts (length vertices.old) (length ties.old) }
+        ensures stage { result.stage ≡ stage_after said }
+        ensures counts { result.counts ≡ counts_after said self.counts }
+        ensures vertices { vertices.new ≡ vertices_after said self.counts vertices.old }
+        ensures ties { ties.new ≡ ties_after said self.counts ties.old }
+    {
+        let mut counts = self.counts;
+        let stage = match said {
+            Record::Graph => Stage::Vertices,
+            Record::Vertex(label) => {
+                vertices[counts.vertices] = label;
+                counts.vertices += 1;
+                Stage::Vertices
+            }
+            Record::Tied(tie) => {
+                ties[counts.ties] = tie;
+                counts.ties += 1;
+                Stage::Ties
+            }
+            Record::End => Stage::Closed,
+        };
+        Progress { stage, counts }
+    }
 }
 
 // Reads a text's lines one after another into the lists, up to the first fault.
+// A struct of the two lists would need clauses on what its borrows leave, so it is no plainer.
 fn read_lines<L: Label>(
     text: &[u8],
     number: usize,
@@ -131,13 +110,19 @@ fn read_lines<L: Label>(
     };
     let mut progress = START;
     let mut lines = Pieces::new(text, b'\n');
+    // Whether a line is the last is asked of the iterator between its items, so this is no `for`.
     while let Some(line) = lines.next() {
         if lines.is_done() {
-            return close(progress, number, line.place, line.bytes);
+            return progress.close(number, line.place, line.bytes);
         }
-        let read = read_next(line.bytes, progress, ties, room);
-        let said = placed(read, number, line.place)?;
-        progress = store(said, progress, vertices, ties);
+        let said = progress
+            .read_next(line.bytes, ties, room)
+            .map_err(|fault| FaultyLine {
+                text: number,
+                line: line.place,
+                fault,
+            })?;
+        progress = progress.store(said, vertices, ties);
     }
     Err(TextFault::InLine(FaultyLine {
         text: number,

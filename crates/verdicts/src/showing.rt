@@ -1,7 +1,7 @@
 // Bytes shown safely to a person.
 
 ghost use Rattle.std.specs.Prelude.{◌≡◌, ◌++◌, IfOk, string_bytes, OnOk};
-ghost use Rattle.verdicts.specs.Showing.{is_plain, hex_digit, escaped_byte, shown_bytes, shown_byte};
+ghost use Rattle.verdicts.specs.Showing.{is_plain, shown_bytes, shown_byte};
 
 use std::alloc::{AllocError, Global};
 
@@ -9,30 +9,7 @@ use std::alloc::{AllocError, Global};
 fn is_plain(byte: u8) -> bool
     ensures { result ≡ is_plain byte }
 {
-    byte >= b' ' && byte <= b'~' && byte != b'"' && byte != b'\\'
-}
-
-// The hexadecimal digit of a number below 16.
-fn hex_digit(number: u8) -> char
-    ensures { result ≡ hex_digit number }
-{
-    if number < 10 {
-        (b'0' + number) as char
-    } else if number < 16 {
-        (b'a' + (number - 10)) as char
-    } else {
-        '?'
-    }
-}
-
-// Adds `\x` and the two hexadecimal digits of a byte to a text.
-fn push_escaped(text: &mut String, byte: u8) -> Result<(), AllocError>
-    ensures { OnOk result (string_bytes text.new ≡ string_bytes text.old ++ escaped_byte byte) }
-{
-    text.push_str("\\x")?;
-    text.push(hex_digit(byte / 16))?;
-    text.push(hex_digit(byte % 16))?;
-    Ok(())
+    (b' '..=b'~').contains(&byte) && byte != b'"' && byte != b'\\'
 }
 
 // Adds a byte to a text: as it stands, a tab as `\t`, and any other as `\x` and its two hexadecimal digits.
@@ -40,13 +17,12 @@ fn push_shown(text: &mut String, byte: u8) -> Result<(), AllocError>
     ensures { OnOk result (string_bytes text.new ≡ string_bytes text.old ++ shown_byte byte) }
 {
     if is_plain(byte) {
-        text.push(byte as char)?;
-        return Ok(());
+        text.push(char::from(byte))
+    } else if byte == b'\t' {
+        text.push_str("\\t")
+    } else {
+        write!(text, "\\x{byte:02x}")
     }
-    if byte == b'\t' {
-        return text.push_str("\\t");
-    }
-    push_escaped(text, byte)
 }
 
 // Bytes as a text of printable characters.

@@ -9,14 +9,12 @@ use graphs::Pay;
 pub fn tally(vertices: &[Pay], counts: &mut [usize])
     ensures { (k : ℕ) → k < length counts.old → slice_index counts.new k ≡ kind_count k vertices.now }
 {
-    for count in counts.iter_mut() {
-        *count = 0;
-    }
+    counts.fill(0);
     for vertex in vertices {
+        // No proof learns what a slice holds after a write by `get_mut`.
         let kind = vertex.kind as usize;
         if kind < counts.len() {
-            let count = counts[kind];
-            counts[kind] = count + 1;
+            counts[kind] += 1;
         }
     }
 }

@@ -20,6 +20,7 @@ use texts::point;
 const KINDS: usize = 10_000;
 
 // What is wrong, in words that follow the faulty bytes.
+// As `Display` it would need a type of its own here, since the fault is another crate's: that is no plainer.
 fn complaint(fault: LineFault) -> &'static str
     ensures { result.now ≡ complaint_of fault }
 {
@@ -35,6 +36,7 @@ fn complaint(fault: LineFault) -> &'static str
     }
 }
 
+// What is wrong with a field, in such words.
 fn field_complaint(trouble: FieldTrouble) -> &'static str
     ensures { result.now ≡ field_complaint trouble }
 {
@@ -50,9 +52,7 @@ fn field_complaint(trouble: FieldTrouble) -> &'static str
 fn sentence(heap: Global, text: &[u8], fault: TextFault) -> Result<String, AllocError>
     ensures { IfOk result (λ s. string_bytes s ≡ sentence_of text.now fault) }
 {
-    let refusal = fault.refusal();
-    let line = refusal.line;
-    let field = refusal.field;
+    let Refusal { line, field, .. } = fault.refusal();
     match fault {
         TextFault::TooLong(_) => String::from_str(heap, "the file has more than 65,536 bytes"),
         TextFault::InLine(faulty) => {
@@ -67,15 +67,17 @@ fn sentence(heap: Global, text: &[u8], fault: TextFault) -> Result<String, Alloc
     }
 }
 
-// The fields of the refusal line, after a sheet's name.
-fn refusal_row(heap: Global, name: &str, refusal: Refusal) -> Result<String, AllocError>
-    ensures { IfOk result (λ s. string_bytes s ≡ refusal_row name.now refusal) }
+// Adds the fields of the refusal line, after a sheet's name.
+fn push_refusal_row(out: &mut String, name: &str, refusal: Refusal) -> Result<(), AllocError>
+    ensures { OnOk result (string_bytes out.new ≡ string_bytes out.old ++ refusal_row name.now refusal) }
 {
-    let number = refusal.number;
-    let text = refusal.text;
-    let line = refusal.line;
-    let field = refusal.field;
-    format!(in heap; "{name}\tr\t{number}\t{text}\t{line}\t{field}\n")
+    let Refusal {
+        number,
+        text,
+        line,
+        field,
+    } = refusal;
+    write!(out, "{name}\tr\t{number}\t{text}\t{line}\t{field}\n")
 }
 
 // The two lines on a bad sheet: a sentence, and the fields of the refusal line.
@@ -84,8 +86,7 @@ fn refused(heap: Global, name: &str, text: &[u8], fault: TextFault) -> Result<St
 {
     let wrong = sentence(heap, text, fault)?;
     let mut out = format!(in heap; "{name}: {wrong}\n")?;
-    let row = refusal_row(heap, name, fault.refusal())?;
-    out.push_str(row.as_str())?;
+    push_refusal_row(&mut out, name, fault.refusal())?;
     Ok(out)
 }
 
@@ -93,41 +94,28 @@ fn refused(heap: Global, name: &str, text: &[u8], fault: TextFault) -> Result<St
 fn counts_text(heap: Global, name: &str, counts: Counts) -> Result<String, AllocError>
     ensures { IfOk result (λ s. string_bytes s ≡ counts_text name.now counts) }
 {
-    let vertices = counts.vertices;
-    let ties = counts.ties;
+    let Counts { vertices, ties } = counts;
     format!(in heap;
         "{name}: good, with {vertices} vertices and {ties} ties\n{name}\tg\t{vertices}\t{ties}\n"
     )
 }
 
 // Adds a row for a kind of which there are some.
-fn push_kind(
-    heap: Global,
-    out: &mut String,
-    name: &str,
-    kind: usize,
-    count: usize,
-) -> Result<(), AllocError>
+fn push_kind(out: &mut String, name: &str, kind: usize, count: usize) -> Result<(), AllocError>
     ensures { OnOk result (string_bytes out.new ≡ string_bytes out.old ++ kind_text name.now kind count) }
 {
     if count > 0 {
-        let row = format!(in heap; "{name}\tk\t{kind}\t{count}\n")?;
-        out.push_str(row.as_str())?;
+        write!(out, "{name}\tk\t{kind}\t{count}\n")?;
     }
     Ok(())
 }
 
 // Adds the rows of all kinds, by the list of how many there are of each.
-fn push_kinds(
-    heap: Global,
-    out: &mut String,
-    name: &str,
-    counts: &[usize],
-) -> Result<(), AllocError>
+fn push_kinds(out: &mut String, name: &str, counts: &[usize]) -> Result<(), AllocError>
     ensures { OnOk result (string_bytes out.new ≡ string_bytes out.old ++ kind_rows name.now (λ k. slice_index counts.now k) (length counts.now)) }
 {
-    for kind in 0..counts.len() {
-        push_kind(heap, out, name, kind, counts[kind])?;
+    for (kind, count) in counts.iter().enumerate() {
+        push_kind(out, name, kind, *count)?;
     }
     Ok(())
 }
@@ -139,7 +127,7 @@ fn taken(heap: Global, name: &str, counts: Counts, vertices: &[Pay]) -> Result<S
     let mut out = counts_text(heap, name, counts)?;
     let mut kinds = vec![in heap; 0usize; KINDS]?;
     tally(vertices, kinds.as_mut_slice());
-    push_kinds(heap, &mut out, name, kinds.as_slice())?;
+    push_kinds(&mut out, name, kinds.as_slice())?;
     Ok(out)
 }
 
@@ -156,7 +144,7 @@ fn verdict_in(
     match judge(text, vertices, ties) {
         Ok(counts) => {
             let stated = counts.vertices;
-            taken(heap, name, counts, &vertices[0..stated])
+            taken(heap, name, counts, &vertices[..stated])
         }
         Err(fault) => refused(heap, name, text, fault),
     }

@@ -1,22 +1,20 @@
 // The cutting of a text, one piece after another.
 
-ghost use Rattle.std.specs.Prelude.{◌≡◌, ◌+◌, ◌-◌, ◌≤◌, ◌∷◌, length, take, drop};
-ghost use Rattle.fields.specs.Split.{split, split_from, left, given, ended, Handed};
+ghost use Rattle.std.specs.Prelude.{◌≡◌, ◌+◌, ◌<◌, ◌∷◌, length, IfSome};
+ghost use Rattle.std.specs.Iterator.{item_count};
+ghost use Rattle.fields.specs.Split.{split, pieces_in, left, given, ended, Handed};
 
 use super::{Piece, Pieces};
 
-// Where the piece that begins at `start` ends: at the next separator, or at the text's end.
-fn piece_end(text: &[u8], separator: u8, start: usize) -> usize
-    requires { start ≤ length text.now }
-    ensures after { start ≤ result }
-    ensures within { result ≤ length text.now }
-    ensures cuts { split separator (drop start text.now) ≡ take (result - start) (drop start text.now) ∷ split_from separator (result + 1) text.now }
+// The first piece of a text, and what stands after its separator; none where it has no separator.
+fn cut(text: &[u8], separator: u8) -> (&[u8], Option<&[u8]>)
+    ensures cuts { split separator text.now ≡ result.0.now ∷ pieces_in separator result.1 }
+    ensures shorter { IfSome result.1 (λ rest. length rest.now < length text.now) }
 {
-    let mut end = start;
-    while end < text.len() && text[end] != separator {
-        end += 1;
+    match text.iter().position(|&byte| byte == separator) {
+        Some(end) => (&text[..end], Some(&text[end + 1..])),
+        None => (text, None),
     }
-    end
 }
 
 impl<'a> Pieces<'a> {
@@ -26,30 +24,10 @@ impl<'a> Pieces<'a> {
         ensures none { given result ≡ 0 }
     {
         Pieces {
-            text,
+            rest: Some(text),
             separator,
-            start: 0,
             count: 0,
         }
-    }
-
-    // The next piece, or none after the last.
-    pub fn next(&mut self) -> Option<Piece<'a>>
-        ensures { Handed self.old result self.new }
-    {
-        let text = self.text;
-        let start = self.start;
-        let place = self.place();
-        if start > text.len() {
-            return None;
-        }
-        let end = piece_end(text, self.separator, start);
-        self.start = end + 1;
-        self.count = place;
-        Some(Piece {
-            place,
-            bytes: &text[start..end],
-        })
     }
 
     // The place of the next piece, also where there is none: 1 at first.
@@ -63,18 +41,33 @@ impl<'a> Pieces<'a> {
     pub fn is_done(&self) -> bool
         ensures { result ≡ ended (left self.now) }
     {
-        self.start > self.text.len()
+        self.rest.is_none()
     }
 
     // How many pieces are yet to be handed out.
     pub fn remaining(&self) -> usize
         ensures { result ≡ length (left self.now) }
     {
-        let mut rest = *self;
-        let mut count = 0;
-        while let Some(_) = rest.next() {
-            count += 1;
-        }
-        count
+        let rest = *self;
+        rest.count()
+    }
+}
+
+impl<'a> Iterator for Pieces<'a> {
+    type Item = Piece<'a>;
+
+    ghost next_gives = { Handed };
+
+    ghost remaining = { item_count left };
+
+    // The next piece, or none after the last.
+    fn next(&mut self) -> Option<Piece<'a>> {
+        let (bytes, rest) = cut(self.rest?, self.separator);
+        self.rest = rest;
+        self.count += 1;
+        Some(Piece {
+            place: self.count,
+            bytes,
+        })
     }
 }

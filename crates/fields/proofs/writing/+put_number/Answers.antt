@@ -12,16 +12,15 @@ one n h = ap length (numeral_digit n h)
 more : (n : ℕ) → 10 ≤ n → n < 2 ^ 64 → length (numeral n) ≡ length (numeral (n / 10)) + 1
 more n h k = ap length (numeral_step n h k) ∙ length_push (numeral (n / 10)) (48 + n % 10)
 
-alone : (n : ℕ) (ys : List ℕ) → n < 10 → 0 < length ys → set ys 0 (n % 10 + 48) ≡ overlaid (numeral n) ys
+alone : (n : ℕ) (ys : List ℕ) → n < 10 → 0 < length ys → set ys 0 (48 + n % 10) ≡ overlaid (numeral n) ys
 alone n ys h k =
-    let d : n % 10 + 48 ≡ 48 + n = omega arith in
+    let d : 48 + n % 10 ≡ 48 + n = omega arith in
     ap (set ys 0) d ∙ overlaid_push [] ys (48 + n) 0 refl k ∙ ap (λ ds. overlaid ds ys) (sym (numeral_digit n h))
 
 longer : (n : ℕ) (ys : List ℕ) (k : ℕ) → 10 ≤ n → n < 2 ^ 64 → k ≡ length (numeral (n / 10)) → k < length ys
-    → set (overlaid (numeral (n / 10)) ys) k (n % 10 + 48) ≡ overlaid (numeral n) ys
+    → set (overlaid (numeral (n / 10)) ys) k (48 + n % 10) ≡ overlaid (numeral n) ys
 longer n ys k h w e l =
-    let d : n % 10 + 48 ≡ 48 + n % 10 = omega arith in
-    ap (set (overlaid (numeral (n / 10)) ys) k) d ∙ overlaid_push (numeral (n / 10)) ys (48 + n % 10) k (sym e) l
+    overlaid_push (numeral (n / 10)) ys (48 + n % 10) k (sym e) l
     ∙ ap (λ ds. overlaid ds ys) (sym (numeral_step n h w))
 
 pub bounds-space-0 : goal.bounds-space-0
@@ -46,6 +45,6 @@ returns t c =
     record {
       count = omega (arith, k);
       after =
-          ap (λ s. set s c.put_number-count.result (n % 10 + 48)) c.put_number-count.ensures.after
+          ap (λ s. set s c.put_number-count.result (48 + n % 10)) c.put_number-count.ensures.after
           ∙ longer n c.args.space.now c.put_number-count.result (omega arith) (omega arith) c.put_number-count.ensures.count (omega (arith, k));
     }

@@ -1,32 +1,14 @@
-use Rattle.std.proofs.Common.{◌≡◌, ℕ, ◌+◌, ◌-◌, ◌<◌, List, [], ◌∷◌, ◌++◌, length, get_or, take, drop, set, sym, ap, ◌∙◌, arith, rules}
+use Rattle.std.proofs.Common.{◌≡◌, ℕ, ◌+◌, ◌-◌, ◌<◌, List, [], ◌∷◌, ◌++◌, length, get_or, take, drop, set, sym, ap, ◌∙◌, arith}
 use borrow.Rule.Slice.PartMut.{put_mid}
-use Rattle.std.proofs.lemmas.List.{take_all, length-set, length-append, length_push, append_assoc}
+use Rattle.std.proofs.lemmas.List.{length-append, length_push, append_assoc}
 use Rattle.fields.specs.Numbers.{numeral}
 use Rattle.fields.specs.Lines.{numbers_text, overlaid}
 use Rattle.fields.proofs.Sizes.{size_more, text_more}
-use Rattle.fields.proofs.Overlaid.{overlaid_push, overlaid_part, room_from}
+use Rattle.fields.proofs.Overlaid.{overlaid_push, overlaid_part}
 use Rattle.fields.proofs.writing.put_numbers.Goals as goal
 
 pub bounds-space-at : goal.bounds-space-at
 bounds-space-at c = omega (arith, size_more c.args.numbers.now c.loop-number.number-index (omega arith))
-
-pub slice_bounds-put_number-count : goal.slice_bounds-put_number-count
-slice_bounds-put_number-count c = simp length-set (omega (arith, size_more c.args.numbers.now c.loop-number.number-index (omega arith)))
-
-pub slice_bounds-put_number-start : goal.slice_bounds-put_number-start
-slice_bounds-put_number-start c =
-    let size = size_more c.args.numbers.now c.loop-number.number-index (omega arith) in
-    let same = length-set c.loop-number.space c.loop-number.at 9 in
-    search rules
-
-pub put_number-requires : goal.put_number-requires
-put_number-requires c =
-    let s : List ℕ = set c.loop-number.space c.loop-number.at 9 in
-    room_from s (c.loop-number.at + 1) (length (numeral (get_or c.args.numbers.now c.loop-number.number-index 0)))
-    (omega (arith, length-set c.loop-number.space c.loop-number.at 9, size_more c.args.numbers.now c.loop-number.number-index (omega arith)))
-
-pub overflow_add-at-in-loop-number-2 : goal.overflow_add-at-in-loop-number-2
-overflow_add-at-in-loop-number-2 c = omega (arith, size_more c.args.numbers.now c.loop-number.number-index (omega arith))
 
 -- one number more: its tab, and its digits at the start of what is left
 module _ (ns ys : List ℕ) (i at : ℕ) (h : i < length ns) (e : at ≡ length (numbers_text (take i ns))) (room : at < length ys) where
@@ -57,11 +39,3 @@ loop-number-preserved c =
       stepped c.args.numbers.now c.args.space.now c.loop-number.number-index c.loop-number.at (omega arith) c.loop-number.invariant.0
           (omega (arith, size)) c.loop-number.space c.put_number.new.space c.loop-number.invariant.2 c.put_number.ensures.after,
     )
-
-pub returns : goal.returns
-returns c =
-    let whole = take_all c.loop-number.number-index c.args.numbers.now (omega arith) in
-    record {
-      count = c.loop-number.invariant.0 ∙ ap (λ ns. length (numbers_text ns)) whole;
-      after = c.loop-number.invariant.2 ∙ ap (λ ns. overlaid (numbers_text ns) c.args.space.now) whole;
-    }

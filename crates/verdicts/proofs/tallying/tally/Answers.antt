@@ -1,5 +1,5 @@
-use Rattle.std.proofs.Common.{◌≡◌, ℕ, ◌+◌, ◌<◌, ◌≤◌, ◌≢◌, List, length, get_or, take, set, sym, ap, ◌∙◌, subst, arith, below_more}
-use Rattle.std.proofs.lemmas.List.{get_or-set_same, get_or-set_other, get_or_default, take_all}
+use Rattle.std.proofs.Common.{◌≡◌, ℕ, ◌+◌, ◌<◌, ◌≤◌, List, length, get_or, take, set, sym, subst, arith}
+use Rattle.std.proofs.lemmas.List.{get_or_default}
 use Rattle.graphs.specs.declared.Pay.{Pay}
 use Rattle.verdicts.specs.Tallying.{kind_count}
 use Rattle.verdicts.proofs.Tallies.{counted, passed, small}
@@ -11,12 +11,6 @@ item vs i = get_or vs i (record { kind = 0; pence = 0 })
 
 read : (vs : List Pay) (i : ℕ) → i < length vs → item vs i ≡ get_or vs i (item vs i)
 read vs i h = get_or_default vs i (record { kind = 0; pence = 0 }) (item vs i) h
-
-pub loop-count-preserved : goal.loop-count-preserved
-loop-count-preserved c =
-    below_more _ _
-    (λ k h. let ne : k ≢ c.loop-count.count-index = omega arith in rw get_or-set_other (c.loop-count.invariant k h))
-    (let lt : c.loop-count.count-index < length c.loop-count.counts = omega arith in rw get_or-set_same)
 
 pub overflow_add-counts : goal.overflow_add-counts
 overflow_add-counts c =
@@ -42,7 +36,3 @@ loop-vertex-preserved c =
       | then-kind-counts w ↦ count c.loop-vertex.counts c.if-kind-counts.counts c.args.vertices.now c.loop-vertex.vertex-index (omega arith) c.loop-vertex.invariant w.counts-is w.if-kind-counts.true
       | else-kind-counts w ↦ turn c.loop-vertex.counts c.if-kind-counts.counts c.args.vertices.now c.loop-vertex.vertex-index (omega arith) c.loop-vertex.invariant w.counts-is w.if-kind-counts.false
     ]
-
-pub returns : goal.returns
-returns c k h =
-    c.loop-vertex.invariant k (omega arith) ∙ ap (kind_count k) (take_all c.loop-vertex.vertex-index c.args.vertices.now (omega arith))

@@ -2,8 +2,5 @@ use Rattle.std.proofs.Common.{◌≡◌, ℕ, ◌<◌, length, get_or, take}
 use Rattle.verdicts.specs.Tallying.{kind_count}
 use Rattle.verdicts.proofs.tallying.tally.Given as goal
 
-abbrev pub invariant-loop-count : goal.invariant-loop-count
-invariant-loop-count l = (k : ℕ) → k < l.count-index → get_or l.counts k 0 ≡ 0
-
 abbrev pub invariant-loop-vertex : goal.invariant-loop-vertex
 invariant-loop-vertex l = (k : ℕ) → k < length l.counts → get_or l.counts k 0 ≡ kind_count k (take l.vertex-index l.vertices)

@@ -1,6 +1,5 @@
 use Rattle.std.proofs.Common.{◌≡◌, ℕ, ◌<◌, List, ◌++◌, length, get_or, take, drop, string_bytes, ap, ◌∙◌, arith}
 use Rattle.std.proofs.lemmas.List.{take_at}
-use Rattle.std.proofs.lemmas.Result.{err_from_is_err_and}
 use Rattle.graphs.specs.declared.Pay.{Pay}
 use Rattle.grammar.specs.declared.records.Counts.{Counts}
 use Rattle.verdicts.specs.Tallying.{kind_count}
@@ -18,10 +17,6 @@ whole name c vs out last cs ws zs n p q r len many each =
     p ∙ (λ i. q i ++ kind_rows name (λ k. get_or (same i) k 0) (length (same i)))
     ∙ ap (λ m. counts_text name c ++ kind_rows name (λ k. get_or ws k 0) m) all
     ∙ ap (λ rows. counts_text name c ++ rows) (rows_same name (λ k. get_or ws k 0) (λ k. kind_count k vs) 10000 (λ k h. each k (omega (arith, all))))
-
-pub returns-in_err-push_kinds : goal.returns-in_err-push_kinds
-returns-in_err-push_kinds c =
-    let p = err_from_is_err_and c.from_residual-in_err-push_kinds.result c.from_residual-in_err-push_kinds.ensures.1 in rw p.1 tt
 
 pub returns : goal.returns
 returns c =

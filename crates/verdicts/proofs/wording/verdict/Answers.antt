@@ -1,16 +1,8 @@
 use Rattle.std.proofs.Common.{◌≡◌, length, ap, ◌∙◌}
-use Rattle.std.proofs.lemmas.Result.{err_from_is_err_and, IfOk-weaker}
+use Rattle.std.proofs.lemmas.Result.{IfOk-weaker}
 use Rattle.verdicts.specs.Showing.{shown_bytes}
 use Rattle.verdicts.specs.Wording.{verdict_text}
 use Rattle.verdicts.proofs.wording.verdict.Goals as goal
-
-pub returns-in_err-ties : goal.returns-in_err-ties
-returns-in_err-ties c =
-    let p = err_from_is_err_and c.from_residual-in_err-ties.result c.from_residual-in_err-ties.ensures.1 in rw p.1 tt
-
-pub returns-in_err-name : goal.returns-in_err-name
-returns-in_err-name c =
-    let p = err_from_is_err_and c.from_residual-in_err-name.result c.from_residual-in_err-name.ensures.1 in rw p.1 tt
 
 pub returns : goal.returns
 returns c =
