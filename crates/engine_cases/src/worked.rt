@@ -43,7 +43,10 @@ fn tie(from: usize, to: usize) -> Tie<Pay> {
 #[test]
 fn fork_and_split_are_listed(rt: HostRuntime) -> Result<(), Fail> {
     let heap = rt.alloc();
-    let book = with_sample(&Book::blank(), &pattern(heap, [10, 10, 20], [(0, 2), (1, 2)])?)?;
+    let book = with_sample(
+        &Book::blank(),
+        &pattern(heap, [10, 10, 20], [(0, 2), (1, 2)])?,
+    )?;
     assert_eq!(rt; book.tables.pieces.as_slice().len(), 4);
     let book = with_sample(&book, &pattern(heap, [20, 10, 20], [(1, 0), (1, 2)])?)?;
     assert_eq!(rt; book.tables.pieces.as_slice().len(), 5);
@@ -71,7 +74,10 @@ fn fork_and_split_are_listed(rt: HostRuntime) -> Result<(), Fail> {
 #[test]
 fn short_lists_are_refused(rt: HostRuntime) -> Result<(), Fail> {
     let heap = rt.alloc();
-    let book = with_sample(&Book::blank(), &pattern(heap, [10, 10, 20], [(0, 2), (1, 2)])?)?;
+    let book = with_sample(
+        &Book::blank(),
+        &pattern(heap, [10, 10, 20], [(0, 2), (1, 2)])?,
+    )?;
     let book = with_sample(&book, &pattern(heap, [20, 10, 20], [(1, 0), (1, 2)])?)?;
     let labels = [pay(10), pay(10), pay(20), pay(20)];
     let ties = [tie(0, 2), tie(1, 2), tie(1, 3)];
