@@ -14,58 +14,59 @@ use writing::{Listing, list_rows};
 // How long the work list and the row list of a comparison are.
 const ROOM: usize = 20_000;
 
-// How often the row is listed for the pattern of this number.
-fn times_listed(
-    patterns: &[Sample<Code>],
-    numbers: &[usize],
-    number: usize,
-    row: &[usize],
-) -> usize {
-    let mut at: usize = 0;
-    let mut times: usize = 0;
-    for _ in 0..numbers.len() {
-        let Some(first) = numbers.get(at) else {
-            return times;
-        };
-        let Some(pattern) = patterns.get(*first) else {
-            return times;
-        };
-        let start = at.saturating_add(1);
-        let end = start.saturating_add(pattern.labels.len());
-        if end < start || end > numbers.len() {
-            return times;
-        }
-        if *first == number && &numbers[start..end] == row {
-            times = times.saturating_add(1);
-        }
-        at = end;
-    }
-    times
+// What is compared: the patterns of a book, the numbers that are listed of them, and the sheet and the key that they are listed for.
+#[derive(Clone, Copy)]
+struct Compared<'a, S, K> {
+    patterns: &'a [Sample<Code>],
+    numbers: &'a [usize],
+    sheet: &'a S,
+    key: &'a K,
 }
 
-// Checks that each occurrence of the pattern is listed once, and says how many there are.
-fn check_pattern<S: Sheet, K: Key<S::Label>>(
-    rt: &impl Abort,
-    heap: Global,
-    patterns: &[Sample<Code>],
-    numbers: &[usize],
-    number: usize,
-    sheet: &S,
-    key: &K,
-) -> Result<usize, Fail> {
-    let Some(pattern) = patterns.get(number) else {
-        return Err(Fail::new("no such pattern"));
-    };
-    let count = pattern.labels.len();
-    let mut found: usize = 0;
-    for tried in 0..row_numbers(sheet.size(), count) {
-        let row = row_of_number(heap, tried, sheet.size(), count)?;
-        if is_occurrence(pattern, sheet, key, row.as_slice()) {
-            assert_eq!(rt; times_listed(patterns, numbers, number, row.as_slice()), 1);
-            found = found.saturating_add(1);
+impl<'a, S: Sheet, K: Key<S::Label>> Compared<'a, S, K> {
+    // How often the row is listed for the pattern of this number.
+    fn times_listed(&self, number: usize, row: &[usize]) -> usize {
+        let mut rest = self.numbers;
+        let mut times: usize = 0;
+        // a listed row has a number or more, so these are turns enough, and no measure is asked for
+        for _ in self.numbers {
+            let Some((first, after)) = rest.split_first() else {
+                return times;
+            };
+            let Some(pattern) = self.patterns.get(*first) else {
+                return times;
+            };
+            let Some((listed, later)) = after.split_at_checked(pattern.labels.len()) else {
+                return times;
+            };
+            if *first == number && listed == row {
+                times = times.saturating_add(1);
+            }
+            rest = later;
         }
+        times
     }
-    Ok(found)
+
+    // Checks that each occurrence of the pattern of this number is listed once, and says how many there are.
+    fn check_pattern(
+        &self,
+        rt: &impl Abort,
+        heap: Global,
+        number: usize,
+        pattern: &Sample<Code>,
+    ) -> Result<usize, Fail> {
+        let count = pattern.labels.len();
+        let base = self.sheet.size();
+        let mut found: usize = 0;
+        for tried in 0..row_numbers(base, count) {
+            let row = row_of_number(heap, tried, base, count)?;
+            if is_occurrence(pattern, self.sheet, self.key, row.as_slice()) {
+                assert_eq!(rt; self.times_listed(number, row.as_slice()), 1);
+                found = found.saturating_add(1);
+            }
+        }
+        Ok(found)
+    }
 }
 
 // Checks that what is listed of the book's patterns is each occurrence once and nothing else, and that the work list is all zeros then.
@@ -80,13 +81,18 @@ pub fn check_listing<S: Sheet, K: Key<S::Label>>(
     let mut work = vec![in heap; 0; ROOM]?;
     let mut rows = vec![in heap; 0; ROOM]?;
     let listing = list_rows(book, sheet, key, work.as_mut_slice(), rows.as_mut_slice())?;
-    let written = rows.as_slice();
-    let end = listing.numbers;
-    assert!(rt; end <= written.len());
-    let numbers = &written[0..end];
+    let Some(numbers) = rows.as_slice().get(..listing.numbers) else {
+        return Err(Fail::new("more numbers than the row list has"));
+    };
+    let compared = Compared {
+        patterns,
+        numbers,
+        sheet,
+        key,
+    };
     let mut total: usize = 0;
-    for number in 0..patterns.len() {
-        let found = check_pattern(rt, heap, patterns, numbers, number, sheet, key)?;
+    for (number, pattern) in patterns.iter().enumerate() {
+        let found = compared.check_pattern(rt, heap, number, pattern)?;
         total = total.saturating_add(found);
     }
     assert_eq!(rt; total, listing.rows);
