@@ -48,26 +48,8 @@ fn field_complaint(trouble: FieldTrouble) -> &'static str
     }
 }
 
-// The sentence that says what is wrong with a sheet, after its name.
-fn sentence(heap: Global, text: &[u8], fault: TextFault) -> Result<String, AllocError>
-    ensures { IfOk result (λ s. string_bytes s ≡ sentence_of text.now fault) }
-{
-    let Refusal { line, field, .. } = fault.refusal();
-    match fault {
-        TextFault::TooLong(_) => String::from_str(heap, "the file has more than 65,536 bytes"),
-        TextFault::InLine(faulty) => {
-            let bytes = shown(heap, point(text, text, fault))?;
-            let wrong = complaint(faulty.fault);
-            if field == 0 {
-                format!(in heap; "line {line}: \"{bytes}\" {wrong}")
-            } else {
-                format!(in heap; "line {line}, field {field}: \"{bytes}\" {wrong}")
-            }
-        }
-    }
-}
-
 // Adds the fields of the refusal line, after a sheet's name.
+// Text and name stay apart here and below: in a struct, each function would have to promise that the name stays.
 fn push_refusal_row(out: &mut String, name: &str, refusal: Refusal) -> Result<(), AllocError>
     ensures { OnOk result (string_bytes out.new ≡ string_bytes out.old ++ refusal_row name.now refusal) }
 {
@@ -78,16 +60,6 @@ fn push_refusal_row(out: &mut String, name: &str, refusal: Refusal) -> Result<()
         field,
     } = refusal;
     write!(out, "{name}\tr\t{number}\t{text}\t{line}\t{field}\n")
-}
-
-// The two lines on a bad sheet: a sentence, and the fields of the refusal line.
-fn refused(heap: Global, name: &str, text: &[u8], fault: TextFault) -> Result<String, AllocError>
-    ensures { IfOk result (λ s. string_bytes s ≡ refused_text name.now (sentence_of text.now fault) (refusal_of fault)) }
-{
-    let wrong = sentence(heap, text, fault)?;
-    let mut out = format!(in heap; "{name}: {wrong}\n")?;
-    push_refusal_row(&mut out, name, fault.refusal())?;
-    Ok(out)
 }
 
 // The counts of a good sheet, in a sentence and in a row.
@@ -131,22 +103,61 @@ fn taken(heap: Global, name: &str, counts: Counts, vertices: &[Pay]) -> Result<S
     Ok(out)
 }
 
-// The verdict on a sheet of a name, which is shown already, by means of two lists.
-fn verdict_in(
-    heap: Global,
-    name: &str,
-    text: &[u8],
-    vertices: &mut [Pay],
-    ties: &mut [Tie<Pay>],
-) -> Result<String, AllocError>
-    ensures { IfOk result (λ s. string_bytes s ≡ verdict_text (room_in vertices.old ties.old) name.now text.now) }
-{
-    match judge(text, vertices, ties) {
-        Ok(counts) => {
-            let stated = counts.vertices;
-            taken(heap, name, counts, &vertices[..stated])
+// A sheet's text, with the name that is shown of it.
+#[derive(Clone, Copy)]
+struct NamedText<'a> {
+    name: &'a str,
+    text: &'a [u8],
+}
+
+impl<'a> NamedText<'a> {
+    // The sentence that says what is wrong with the sheet, after its name.
+    fn sentence(&self, heap: Global, fault: TextFault) -> Result<String, AllocError>
+        ensures { IfOk result (λ s. string_bytes s ≡ sentence_of self.now.text.now fault) }
+    {
+        let Refusal { line, field, .. } = fault.refusal();
+        match fault {
+            TextFault::TooLong(_) => String::from_str(heap, "the file has more than 65,536 bytes"),
+            TextFault::InLine(faulty) => {
+                let bytes = shown(heap, point(self.text, self.text, fault))?;
+                let wrong = complaint(faulty.fault);
+                // of a refusal, which has field 0 where there is none
+                if field == 0 {
+                    format!(in heap; "line {line}: \"{bytes}\" {wrong}")
+                } else {
+                    format!(in heap; "line {line}, field {field}: \"{bytes}\" {wrong}")
+                }
+            }
         }
-        Err(fault) => refused(heap, name, text, fault),
+    }
+
+    // The two lines on a bad sheet: a sentence, and the fields of the refusal line.
+    fn refused(&self, heap: Global, fault: TextFault) -> Result<String, AllocError>
+        ensures { IfOk result (λ s. string_bytes s ≡ refused_text self.now.name.now (sentence_of self.now.text.now fault) (refusal_of fault)) }
+    {
+        let name = self.name;
+        let wrong = self.sentence(heap, fault)?;
+        let mut out = format!(in heap; "{name}: {wrong}\n")?;
+        push_refusal_row(&mut out, name, fault.refusal())?;
+        Ok(out)
+    }
+
+    // The verdict, by means of two lists.
+    fn verdict_in(
+        &self,
+        heap: Global,
+        vertices: &mut [Pay],
+        ties: &mut [Tie<Pay>],
+    ) -> Result<String, AllocError>
+        ensures { IfOk result (λ s. string_bytes s ≡ verdict_text (room_in vertices.old ties.old) self.now.name.now self.now.text.now) }
+    {
+        match judge(self.text, vertices, ties) {
+            Ok(counts) => {
+                let stated = counts.vertices;
+                taken(heap, self.name, counts, &vertices[..stated])
+            }
+            Err(fault) => self.refused(heap, fault),
+        }
     }
 }
 
@@ -163,11 +174,9 @@ pub fn verdict(heap: Global, name: &str, text: &[u8]) -> Result<String, AllocErr
     let mut vertices = vec![in heap; blank; MOST_ROWS]?;
     let mut ties = vec![in heap; tie; MOST_ROWS]?;
     let name = shown(heap, name.as_bytes())?;
-    verdict_in(
-        heap,
-        name.as_str(),
+    let named = NamedText {
+        name: name.as_str(),
         text,
-        vertices.as_mut_slice(),
-        ties.as_mut_slice(),
-    )
+    };
+    named.verdict_in(heap, vertices.as_mut_slice(), ties.as_mut_slice())
 }
