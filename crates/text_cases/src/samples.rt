@@ -11,24 +11,19 @@ pub const NO_CODE: Code = Code { number: 0 };
 
 pub const NO_PAY: Pay = Pay { kind: 0, pence: 0 };
 
-// A tie as the lists hold them before a text is read.
-fn blank<L>(label: L) -> Tie<L> {
-    Tie {
-        from: 0,
-        to: 0,
-        label,
-    }
+pub fn tie<L>(from: usize, to: usize, label: L) -> Tie<L> {
+    Tie { from, to, label }
 }
 
 // Reads a text with codes, as text 1, where there is room for three vertices and two ties.
 // No proof knows how large an array of a type parameter is, so each label type has a function of its own.
 pub fn read_codes(text: &[u8]) -> Result<Counts, TextFault> {
-    read_graph(text, 1, &mut [NO_CODE; 3], &mut [blank(NO_CODE); 2])
+    read_graph(text, 1, &mut [NO_CODE; 3], &mut [tie(0, 0, NO_CODE); 2])
 }
 
 // The same with pay labels, as text 2.
 pub fn read_pay(text: &[u8]) -> Result<Counts, TextFault> {
-    read_graph(text, 2, &mut [NO_PAY; 3], &mut [blank(NO_PAY); 2])
+    read_graph(text, 2, &mut [NO_PAY; 3], &mut [tie(0, 0, NO_PAY); 2])
 }
 
 // Checks that a text was refused with these numbers.
