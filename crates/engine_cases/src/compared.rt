@@ -1,6 +1,6 @@
 // The rows that are listed of a book's patterns, beside those that the matcher finds.
 
-use crate::matcher::{is_occurrence, row_numbers, row_of_number};
+use crate::matcher::Matcher;
 use crate::samples::Sample;
 use graphs::Code;
 use keys::Key;
@@ -55,12 +55,15 @@ impl<'a, S: Sheet, K: Key<S::Label>> Compared<'a, S, K> {
         number: usize,
         pattern: &Sample<Code>,
     ) -> Result<usize, Fail> {
-        let count = pattern.labels.len();
-        let base = self.sheet.size();
+        let matcher = Matcher {
+            pattern,
+            sheet: self.sheet,
+            key: self.key,
+        };
         let mut found: usize = 0;
-        for tried in 0..row_numbers(base, count) {
-            let row = row_of_number(heap, tried, base, count)?;
-            if is_occurrence(pattern, self.sheet, self.key, row.as_slice()) {
+        for tried in 0..matcher.row_numbers() {
+            let row = matcher.row_of_number(heap, tried)?;
+            if matcher.is_occurrence(row.as_slice()) {
                 assert_eq!(rt; self.times_listed(number, row.as_slice()), 1);
                 found = found.saturating_add(1);
             }
