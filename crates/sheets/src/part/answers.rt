@@ -16,17 +16,17 @@ impl<S: Sheet> Sheet for Part<S> {
 
     fn size(&self) -> usize {
         let size_below = self.below.size();
-        let picks = self.picks.as_slice();
+        let picks = self.picks();
         picks.iter().filter(|pick| **pick < size_below).count()
     }
 
     fn label(&self, vertex: usize) -> Option<S::Label> {
-        let pick = self.picks.as_slice().get(vertex)?;
+        let pick = self.picks().get(vertex)?;
         self.below.label(*pick)
     }
 
     fn tie(&self, from: usize, to: usize) -> Option<S::Label> {
-        let picks = self.picks.as_slice();
+        let picks = self.picks();
         let (from_pick, to_pick) = (picks.get(from)?, picks.get(to)?);
         self.below.tie(*from_pick, *to_pick)
     }

@@ -4,10 +4,9 @@ ghost use Rattle.std.specs.Prelude.{◌≡◌, false, [], is_ok};
 ghost use Rattle.sheets.specs.Parts.{picks_of};
 ghost use Rattle.sheets.specs.Picks.{above_last, answered, picks_after};
 
-use crate::part::Part;
+use crate::part::{MOST_PICKS, Part};
 use crate::refusal::PickRefusal;
 use crate::sheet::Sheet;
-use short_lists::ShortList;
 
 impl<S> Part<S> {
     // The part of a sheet with nothing picked yet.
@@ -17,7 +16,8 @@ impl<S> Part<S> {
     {
         Part {
             below,
-            picks: ShortList::new(0),
+            array: [0; MOST_PICKS],
+            count: 0,
         }
     }
 
@@ -25,18 +25,26 @@ impl<S> Part<S> {
     pub fn into_sheet(self) -> S
         ensures { result ≡ self.below }
     {
-        let Part { below, picks: _ } = self;
+        let Part {
+            below,
+            array: _,
+            count: _,
+        } = self;
         below
+    }
+
+    // The picks so far.
+    pub(super) fn picks(&self) -> &[usize]
+        ensures { result.now ≡ picks_of self.now }
+    {
+        &self.array[..self.count]
     }
 
     // Whether the vertex is above the last pick. Every vertex is, where nothing is picked.
     fn is_above_last(&self, vertex: usize) -> bool
         ensures { result ≡ above_last (picks_of self.now) vertex }
     {
-        self.picks
-            .as_slice()
-            .last()
-            .is_none_or(|last| *last < vertex)
+        self.picks().last().is_none_or(|last| *last < vertex)
     }
 }
 
@@ -51,7 +59,7 @@ impl<S: Sheet> Part<S> {
         if vertex >= self.below.size() {
             return Err(PickRefusal::NotInSheet);
         }
-        if self.picks.is_full() {
+        if self.count >= MOST_PICKS {
             return Err(PickRefusal::TooMany);
         }
         Ok(())
@@ -65,7 +73,9 @@ impl<S: Sheet> Part<S> {
         ensures refused { is_ok result ≡ false → self.new ≡ self.old }
     {
         self.answer(vertex)?;
-        self.picks.push(vertex);
+        let count = self.count;
+        self.array[count] = vertex;
+        self.count = count + 1;
         Ok(())
     }
 }
