@@ -6,6 +6,11 @@ ghost use Rattle.graphs.specs.Tables.{runs};
 
 pub mod laws;
 
+// The lowest and the highest code that the rules allow, and kind likewise.
+pub const LOWEST_CODE: u32 = 1;
+
+pub const HIGHEST_CODE: u32 = 9_999;
+
 // A code: in a pattern, what a vertex or a tie is. The rules allow 1 to 9,999; the type holds any number, so that a call can refuse a bad one.
 #[derive(Clone, Copy, PartialEq, Eq, Debug)]
 pub struct Code {

@@ -1,6 +1,6 @@
 // Books: tables that keep the rules of a book at every moment.
 
-ghost use Rattle.std.specs.Prelude.{◌≡◌, true, [], ◌∷◌, ◌++◌};
+ghost use Rattle.std.specs.Prelude.{◌≡◌, ◌+◌, ◌≤◌, true, [], ◌∷◌, ◌++◌, length, take, drop};
 ghost use Rattle.network.specs.Tables.{Kept, can_add, pieces_in, pattern_of, patterns_in};
 
 use crate::tables::{SizedPiece, StoredPattern, StoredPiece, Tables};
@@ -38,6 +38,15 @@ impl Book {
                 patterns: ShortList::new(pattern),
             },
         }
+    }
+
+    // The stored ties from one place on, that many.
+    pub fn run_of_ties(&self, from: usize, count: usize) -> &[Tie<Code>]
+        requires { from + count ≤ length self.now.tables.ties.items }
+        ensures { result.now ≡ take count (drop from self.now.tables.ties.items) }
+    {
+        let ties = self.tables.ties.as_slice();
+        &ties[from..from + count]
     }
 
     // The book with this pattern after the others.
