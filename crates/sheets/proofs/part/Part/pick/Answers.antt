@@ -1,6 +1,5 @@
-use Rattle.std.proofs.Common.{◌≡◌, ◌<◌, length, is_ok, refl, sym, ap, ◌∙◌, length-set, arith}
+use Rattle.std.proofs.Common.{◌≡◌, ◌<◌, length, length-set, arith}
 use Rattle.std.proofs.lemmas.List.{length-take-le, take_more_set}
-use Rattle.std.proofs.lemmas.Bool.{cond-true, true≢false}
 use Rattle.sheets.proofs.Rising.{ok_room, rising_more}
 use Rattle.sheets.specs.Parts.{picks_of}
 use Rattle.sheets.proofs.part.Part.pick.Goals as goal
@@ -15,18 +14,4 @@ invariant_of-self g c =
       long = simp length-set p.long;
       few = omega arith;
       ascending = rw (take_more_set p.array p.count c.args.vertex (omega arith)) (rising_more (picks_of p) c.args.vertex n c.in_ok-answer.ensures p.ascending);
-    }
-
-pub returns : goal.returns
-returns g c =
-    let p = c.args.self.now in
-    let n = (g.S.Sheet.graph p.below).size in
-    let ok = c.in_ok-answer.ensures in
-    let many : length (picks_of p) ≡ p.count = length-take-le p.count p.array (omega arith) in
-    let room : length (picks_of p) < 256 = ok_room (picks_of p) c.args.vertex n ok in
-    record {
-      answer = ok;
-      sheet = refl {a = p.below};
-      picks = take_more_set p.array p.count c.args.vertex (omega arith) ∙ sym (cond-true _ _ _ (sym (ap is_ok ok)));
-      refused = λ e. elim (true≢false e) [ ];
     }
