@@ -37,6 +37,7 @@ fn are_good_ties(size: usize, ties: &[Tie<Code>]) -> bool
     ensures { result ≡ good_ends size ties.now }
 {
     let mut rest = ties;
+    // Each tie is compared with the later ones alone, which a `for` over the ties does not hand out.
     while let Some((tie, later)) = rest.split_first() {
         if !is_good_tie(*tie, size) || !is_not_repeated(*tie, later) {
             return false;

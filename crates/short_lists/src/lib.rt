@@ -6,6 +6,7 @@ ghost use Rattle.std.specs.Prelude.{◌≡◌, ◌+◌, ◌<◌, ◌≤◌, ◌=
 use std::marker::Model;
 
 // At most `N` items, at the front of an array. A contract sees the items, and what the rest of the array holds, of which nothing is promised.
+// The kit's `ArrayVec` is not `Copy`, and its clone can fail; books, seats and rows are copied, and no copy of them fails.
 #[derive(Clone, Copy)]
 pub struct ShortList<T, const N: usize> {
     array: [T; N],
