@@ -1,10 +1,10 @@
 // The rows that are listed of a book's patterns, beside those that the matcher finds.
 
+use crate::drawn::DrawnBook;
 use crate::matcher::Matcher;
 use crate::samples::Sample;
 use graphs::Code;
 use keys::Key;
-use network::book::Book;
 use sheets::sheet::Sheet;
 use std::alloc::Global;
 use std::process::Abort;
@@ -27,12 +27,8 @@ impl<'a, S: Sheet, K: Key<S::Label>> Compared<'a, S, K> {
     // How often the row is listed for the pattern of this number.
     fn times_listed(&self, number: usize, row: &[usize]) -> usize {
         let mut rest = self.numbers;
-        let mut times: usize = 0;
-        // a listed row has a number or more, so these are turns enough, and no measure is asked for
-        for _ in self.numbers {
-            let Some((first, after)) = rest.split_first() else {
-                return times;
-            };
+        let mut times = 0;
+        while let Some((first, after)) = rest.split_first() {
             let Some(pattern) = self.patterns.get(*first) else {
                 return times;
             };
@@ -40,7 +36,7 @@ impl<'a, S: Sheet, K: Key<S::Label>> Compared<'a, S, K> {
                 return times;
             };
             if *first == number && listed == row {
-                times = times.saturating_add(1);
+                times += 1;
             }
             rest = later;
         }
@@ -76,17 +72,23 @@ impl<'a, S: Sheet, K: Key<S::Label>> Compared<'a, S, K> {
 pub fn check_listing<S: Sheet, K: Key<S::Label>>(
     rt: &impl Abort,
     heap: Global,
-    book: &Book,
-    patterns: &[Sample<Code>],
+    drawn: &DrawnBook,
     sheet: &S,
     key: &K,
 ) -> Result<(), Fail> {
     let mut work = vec![in heap; 0; ROOM]?;
     let mut rows = vec![in heap; 0; ROOM]?;
-    let listing = list_rows(book, sheet, key, work.as_mut_slice(), rows.as_mut_slice())?;
+    let listing = list_rows(
+        &drawn.book,
+        sheet,
+        key,
+        work.as_mut_slice(),
+        rows.as_mut_slice(),
+    )?;
     let Some(numbers) = rows.as_slice().get(..listing.numbers) else {
         return Err(Fail::new("more numbers than the row list has"));
     };
+    let patterns = drawn.patterns.as_slice();
     let compared = Compared {
         patterns,
         numbers,

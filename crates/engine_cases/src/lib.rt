@@ -7,6 +7,8 @@ mod cases;
 #[cfg(test)]
 mod compared;
 #[cfg(test)]
+mod drawn;
+#[cfg(test)]
 mod matcher;
 pub mod random;
 pub mod samples;

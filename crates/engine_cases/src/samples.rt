@@ -1,14 +1,45 @@
-// Small graphs with labels of any type, made up by the generator.
+// Small graphs with labels of any type: patterns written as numbers, and samples that the generator makes up.
 
 use crate::random::Random;
 use graphs::{Code, Pay, Tie};
+use sheets::table::TableSheet;
 use std::alloc::{AllocError, Global};
+
+// A tie of a pattern, in numbers: from, to, code.
+pub type Link = (usize, usize, u32);
 
 // Labels of the vertices, and ties.
 #[derive(Drop)]
 pub struct Sample<L> {
     pub labels: Vec<L>,
     pub ties: Vec<Tie<L>>,
+}
+
+impl<L> Sample<L> {
+    // The table sheet of the labels and ties.
+    pub fn sheet(&self) -> TableSheet<'_, L> {
+        TableSheet {
+            labels: self.labels.as_slice(),
+            ties: self.ties.as_slice(),
+        }
+    }
+}
+
+// The pattern of these codes and ties.
+pub fn pattern(heap: Global, codes: &[u32], links: &[Link]) -> Result<Sample<Code>, AllocError> {
+    let mut labels = Vec::new(heap);
+    for number in codes {
+        labels.push(Code { number: *number })?;
+    }
+    let mut ties = Vec::new(heap);
+    for (from, to, number) in links {
+        ties.push(Tie {
+            from: *from,
+            to: *to,
+            label: Code { number: *number },
+        })?;
+    }
+    Ok(Sample { labels, ties })
 }
 
 // A pay label without an amount.

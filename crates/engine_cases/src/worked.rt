@@ -1,35 +1,23 @@
-// Two patterns worked out by hand: two of code 10, each tied to one of code 20 (fork), and one of code 10, tied to each of two of code 20 (split).
+// Two patterns, fork and split, whose rows in a sheet are worked out by hand.
 
 use crate::book::with_sample;
-use crate::samples::{Sample, pay};
+use crate::samples::{Sample, pattern, pay};
 use graphs::{Code, Pay, Tie};
 use keys::SameKind;
 use network::SweepRefusal;
 use network::book::Book;
-use sheets::table::TableSheet;
 use std::alloc::{AllocError, Global};
 use std::test::Fail;
 use writing::{Listing, list_rows};
 
-// A pattern whose ties all have code 30.
-fn pattern(
-    heap: Global,
-    codes: [u32; 3],
-    ends: [(usize, usize); 2],
-) -> Result<Sample<Code>, AllocError> {
-    let mut labels = Vec::new(heap);
-    for number in codes {
-        labels.push(Code { number })?;
-    }
-    let mut ties = Vec::new(heap);
-    for (from, to) in ends {
-        ties.push(Tie {
-            from,
-            to,
-            label: Code { number: 30 },
-        })?;
-    }
-    Ok(Sample { labels, ties })
+// Two of code 10, each tied to one of code 20.
+fn fork(heap: Global) -> Result<Sample<Code>, AllocError> {
+    pattern(heap, &[10, 10, 20], &[(0, 2, 30), (1, 2, 30)])
+}
+
+// One of code 10, tied to each of two of code 20.
+fn split(heap: Global) -> Result<Sample<Code>, AllocError> {
+    pattern(heap, &[20, 10, 20], &[(1, 0, 30), (1, 2, 30)])
 }
 
 fn tie(from: usize, to: usize) -> Tie<Pay> {
@@ -40,22 +28,23 @@ fn tie(from: usize, to: usize) -> Tie<Pay> {
     }
 }
 
+// Two of kind 10 and two of kind 20: the first of kind 10 is tied to the first of kind 20, and the second to both.
+fn sample(heap: Global) -> Result<Sample<Pay>, AllocError> {
+    Ok(Sample {
+        labels: vec![in heap; pay(10), pay(10), pay(20), pay(20)]?,
+        ties: vec![in heap; tie(0, 2), tie(1, 2), tie(1, 3)]?,
+    })
+}
+
 #[test]
 fn fork_and_split_are_listed(rt: HostRuntime) -> Result<(), Fail> {
     let heap = rt.alloc();
-    let book = with_sample(
-        &Book::blank(),
-        &pattern(heap, [10, 10, 20], [(0, 2), (1, 2)])?,
-    )?;
+    let book = with_sample(&Book::blank(), &fork(heap)?)?;
     assert_eq!(rt; book.tables.pieces.as_slice().len(), 4);
-    let book = with_sample(&book, &pattern(heap, [20, 10, 20], [(1, 0), (1, 2)])?)?;
+    let book = with_sample(&book, &split(heap)?)?;
     assert_eq!(rt; book.tables.pieces.as_slice().len(), 5);
-    let labels = [pay(10), pay(10), pay(20), pay(20)];
-    let ties = [tie(0, 2), tie(1, 2), tie(1, 3)];
-    let sheet = TableSheet {
-        labels: &labels,
-        ties: &ties,
-    };
+    let sample = sample(heap)?;
+    let sheet = sample.sheet();
     let mut work = [7; 22];
     let mut rows = [9; 17];
     let listed = list_rows(&book, &sheet, &SameKind, &mut work, &mut rows);
@@ -74,17 +63,10 @@ fn fork_and_split_are_listed(rt: HostRuntime) -> Result<(), Fail> {
 #[test]
 fn short_lists_are_refused(rt: HostRuntime) -> Result<(), Fail> {
     let heap = rt.alloc();
-    let book = with_sample(
-        &Book::blank(),
-        &pattern(heap, [10, 10, 20], [(0, 2), (1, 2)])?,
-    )?;
-    let book = with_sample(&book, &pattern(heap, [20, 10, 20], [(1, 0), (1, 2)])?)?;
-    let labels = [pay(10), pay(10), pay(20), pay(20)];
-    let ties = [tie(0, 2), tie(1, 2), tie(1, 3)];
-    let sheet = TableSheet {
-        labels: &labels,
-        ties: &ties,
-    };
+    let book = with_sample(&Book::blank(), &fork(heap)?)?;
+    let book = with_sample(&book, &split(heap)?)?;
+    let sample = sample(heap)?;
+    let sheet = sample.sheet();
     let mut work = [7; 21];
     let mut rows = [9; 15];
     let heavy = list_rows(&book, &sheet, &SameKind, &mut work, &mut rows);

@@ -8,16 +8,14 @@ mod sheet;
 use anyhow::anyhow;
 use counting::CountingSheet;
 use engine_cases::book::with_sample;
-use engine_cases::samples::Sample;
-use graphs::{Code, Pay, Tie};
+use engine_cases::samples::{Sample, pattern};
+use graphs::Pay;
 use keys::SameKind;
 use models::{ALONE, LARGE, Model, SHARED};
 use network::SweepRefusal;
 use network::book::Book;
-use sheet::{Links, make_links};
+use sheet::make_sample;
 use sheets::sheet::Sheet;
-use sheets::table::TableSheet;
-use std::alloc::{AllocError, Global};
 use std::cell::Cell;
 use std::env;
 use std::time::Instant;
@@ -26,26 +24,10 @@ use writing::{Listing, list_rows};
 // The longest lists that the rules allow.
 const ROOM: usize = 1_000_000;
 
-fn sample_of(heap: Global, model: Model) -> Result<Sample<Code>, AllocError> {
-    let mut labels = Vec::new(heap);
-    let mut ties = Vec::new(heap);
-    for number in model.codes {
-        labels.push(Code { number: *number })?;
-    }
-    for (from, to, number) in model.links {
-        ties.push(Tie {
-            from: *from,
-            to: *to,
-            label: Code { number: *number },
-        })?;
-    }
-    Ok(Sample { labels, ties })
-}
-
 fn cut_all(rt: &HostRuntime, book: Book, models: &[Model]) -> anyhow::Result<Book> {
     let mut cut = book;
     for model in models {
-        let pattern = sample_of(rt.alloc(), *model)?;
+        let pattern = pattern(rt.alloc(), model.codes, model.links)?;
         cut = with_sample(&cut, &pattern).map_err(|_| anyhow!("a pattern was refused"))?;
     }
     Ok(cut)
@@ -66,12 +48,9 @@ fn time_listing<S: Sheet<Label = Pay>>(
 }
 
 // Measures a listing without room for rows, which fills and clears the work list, and one with room.
-fn measure(rt: &HostRuntime, book: &Book, links: &Links) -> anyhow::Result<()> {
+fn measure(rt: &HostRuntime, book: &Book, sample: &Sample<Pay>) -> anyhow::Result<()> {
     let heap = rt.alloc();
-    let table = TableSheet {
-        labels: links.labels.as_slice(),
-        ties: links.ties.as_slice(),
-    };
+    let table = sample.sheet();
     let sheet = CountingSheet {
         below: &table,
         labels: Cell::new(0),
@@ -108,8 +87,8 @@ fn run(rt: &HostRuntime) -> anyhow::Result<()> {
     eprintln!(rt; "{cut} microseconds to cut them")?;
     for word in env::args(rt)?.skip(1) {
         let vertices = word.as_str().parse::<usize>()?;
-        let links = make_links(rt.alloc(), vertices / 4)?;
-        measure(rt, &book, &links)?;
+        let sample = make_sample(rt.alloc(), vertices / 4)?;
+        measure(rt, &book, &sample)?;
     }
     Ok(())
 }

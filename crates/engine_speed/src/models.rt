@@ -1,9 +1,7 @@
 // A dozen related patterns of persons, accounts, sites and logins.
 
 use crate::sheet::{ACCOUNT, HOUSEHOLD, LOGIN, PAID_INTO, PERSON, SITE, USES, WORKS_AT};
-
-// A tie of a pattern: from, to, code.
-pub type Link = (usize, usize, u32);
+use engine_cases::samples::Link;
 
 // The codes of a pattern's vertices, and its ties.
 #[derive(Clone, Copy)]

@@ -1,7 +1,7 @@
 // Sheets of any size at constant degree: persons, accounts, sites and logins in equal number, and each person tied to one account, one site and one login, and one in four to another person of the same household.
 
 use engine_cases::random::Random;
-use engine_cases::samples::pay;
+use engine_cases::samples::{Sample, pay};
 use graphs::{Pay, Tie};
 use std::alloc::{AllocError, Global};
 
@@ -21,14 +21,8 @@ pub const USES: u32 = 70;
 
 pub const HOUSEHOLD: u32 = 80;
 
-#[derive(Drop)]
-pub struct Links {
-    pub labels: Vec<Pay>,
-    pub ties: Vec<Tie<Pay>>,
-}
-
 // Vertices come in groups of four: person, account, site, login. `groups` of them.
-pub fn make_links(heap: Global, groups: usize) -> Result<Links, AllocError> {
+pub fn make_sample(heap: Global, groups: usize) -> Result<Sample<Pay>, AllocError> {
     let mut labels = Vec::new(heap);
     let mut ties = Vec::new(heap);
     let mut random = Random::new(2026);
@@ -54,5 +48,5 @@ pub fn make_links(heap: Global, groups: usize) -> Result<Links, AllocError> {
             })?;
         }
     }
-    Ok(Links { labels, ties })
+    Ok(Sample { labels, ties })
 }

@@ -14,6 +14,7 @@ fn is_shapely(field: &[u8]) -> bool
 }
 
 // The number that at most nine digits write.
+// The library's `parse` would need the bytes as a `str` first, and it takes a plus before the digits.
 fn read_digits(field: &[u8]) -> Option<u32>
     requires { length field.now ≤ 9 }
     ensures value { result ≡ read_on 0 field.now }

@@ -28,6 +28,7 @@ fn find_field<'a>(text: &'a [u8], line: usize, field: usize) -> Option<&'a [u8]>
 
 // The faulty field of the text that a fault names, borrowed from that text: of the second for text 2, and of the first for any other.
 // For field 0 it is the line up to its line feed or the text's end; where there is no such line or field, it is the text's empty end.
+// It reads the numbers of a refusal, where 0 stands for none, since these are what the refusal line prints (a rule of the project).
 pub fn point<'a>(first: &'a [u8], second: &'a [u8], fault: TextFault) -> &'a [u8]
     ensures { result.now ≡ pointed (text_of first.now second.now fault) fault }
 {

@@ -65,6 +65,8 @@ impl Progress {
     }
 
     // Stores what a line says in the next free entry of its list, and says how far that leads.
+    // The lists are slices of the caller (a rule of the project), so what they hold is counted.
+    // It writes by index, since no proof learns what a slice holds after a write by `get_mut`.
     fn store<L: Label>(self, said: Record<L>, vertices: &mut [L], ties: &mut [Tie<L>]) -> Progress
         requires { HasRoom said self.counts (length vertices.old) (length ties.old) }
         ensures stage { result.stage ≡ stage_after said }

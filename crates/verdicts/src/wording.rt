@@ -48,61 +48,6 @@ fn field_complaint(trouble: FieldTrouble) -> &'static str
     }
 }
 
-// Adds the fields of the refusal line, after a sheet's name.
-// Text and name stay apart here and below: in a struct, each function would have to promise that the name stays.
-fn push_refusal_row(out: &mut String, name: &str, refusal: Refusal) -> Result<(), AllocError>
-    ensures { OnOk result (string_bytes out.new ≡ string_bytes out.old ++ refusal_row name.now refusal) }
-{
-    let Refusal {
-        number,
-        text,
-        line,
-        field,
-    } = refusal;
-    write!(out, "{name}\tr\t{number}\t{text}\t{line}\t{field}\n")
-}
-
-// The counts of a good sheet, in a sentence and in a row.
-fn counts_text(heap: Global, name: &str, counts: Counts) -> Result<String, AllocError>
-    ensures { IfOk result (λ s. string_bytes s ≡ counts_text name.now counts) }
-{
-    let Counts { vertices, ties } = counts;
-    format!(in heap;
-        "{name}: good, with {vertices} vertices and {ties} ties\n{name}\tg\t{vertices}\t{ties}\n"
-    )
-}
-
-// Adds a row for a kind of which there are some.
-fn push_kind(out: &mut String, name: &str, kind: usize, count: usize) -> Result<(), AllocError>
-    ensures { OnOk result (string_bytes out.new ≡ string_bytes out.old ++ kind_text name.now kind count) }
-{
-    if count > 0 {
-        write!(out, "{name}\tk\t{kind}\t{count}\n")?;
-    }
-    Ok(())
-}
-
-// Adds the rows of all kinds, by the list of how many there are of each.
-fn push_kinds(out: &mut String, name: &str, counts: &[usize]) -> Result<(), AllocError>
-    ensures { OnOk result (string_bytes out.new ≡ string_bytes out.old ++ kind_rows name.now (λ k. slice_index counts.now k) (length counts.now)) }
-{
-    for (kind, count) in counts.iter().enumerate() {
-        push_kind(out, name, kind, *count)?;
-    }
-    Ok(())
-}
-
-// The lines on a good sheet: its counts in a sentence and in a row, and a row for each kind that it has, ascending.
-fn taken(heap: Global, name: &str, counts: Counts, vertices: &[Pay]) -> Result<String, AllocError>
-    ensures { IfOk result (λ s. string_bytes s ≡ taken_text name.now counts vertices.now) }
-{
-    let mut out = counts_text(heap, name, counts)?;
-    let mut kinds = vec![in heap; 0usize; KINDS]?;
-    tally(vertices, kinds.as_mut_slice());
-    push_kinds(&mut out, name, kinds.as_slice())?;
-    Ok(out)
-}
-
 // A sheet's text, with the name that is shown of it.
 #[derive(Clone, Copy)]
 struct NamedText<'a> {
@@ -111,6 +56,63 @@ struct NamedText<'a> {
 }
 
 impl<'a> NamedText<'a> {
+    // Adds the fields of the refusal line, after the sheet's name.
+    fn push_refusal_row(&self, out: &mut String, refusal: Refusal) -> Result<(), AllocError>
+        ensures { OnOk result (string_bytes out.new ≡ string_bytes out.old ++ refusal_row self.now.name.now refusal) }
+    {
+        let name = self.name;
+        let Refusal {
+            number,
+            text,
+            line,
+            field,
+        } = refusal;
+        write!(out, "{name}\tr\t{number}\t{text}\t{line}\t{field}\n")
+    }
+
+    // The counts of a good sheet, in a sentence and in a row.
+    fn counts_text(&self, heap: Global, counts: Counts) -> Result<String, AllocError>
+        ensures { IfOk result (λ s. string_bytes s ≡ counts_text self.now.name.now counts) }
+    {
+        let name = self.name;
+        let Counts { vertices, ties } = counts;
+        format!(in heap;
+            "{name}: good, with {vertices} vertices and {ties} ties\n{name}\tg\t{vertices}\t{ties}\n"
+        )
+    }
+
+    // Adds a row for a kind of which there are some.
+    fn push_kind(&self, out: &mut String, kind: usize, count: usize) -> Result<(), AllocError>
+        ensures { OnOk result (string_bytes out.new ≡ string_bytes out.old ++ kind_text self.now.name.now kind count) }
+    {
+        let name = self.name;
+        if count > 0 {
+            write!(out, "{name}\tk\t{kind}\t{count}\n")?;
+        }
+        Ok(())
+    }
+
+    // Adds the rows of all kinds, by the list of how many there are of each.
+    fn push_kinds(&self, out: &mut String, counts: &[usize]) -> Result<(), AllocError>
+        ensures { OnOk result (string_bytes out.new ≡ string_bytes out.old ++ kind_rows self.now.name.now (λ k. slice_index counts.now k) (length counts.now)) }
+    {
+        for (kind, count) in counts.iter().enumerate() {
+            self.push_kind(out, kind, *count)?;
+        }
+        Ok(())
+    }
+
+    // The lines on a good sheet: its counts in a sentence and in a row, and a row for each kind that it has, ascending.
+    fn taken(&self, heap: Global, counts: Counts, vertices: &[Pay]) -> Result<String, AllocError>
+        ensures { IfOk result (λ s. string_bytes s ≡ taken_text self.now.name.now counts vertices.now) }
+    {
+        let mut out = self.counts_text(heap, counts)?;
+        let mut kinds = vec![in heap; 0usize; KINDS]?;
+        tally(vertices, kinds.as_mut_slice());
+        self.push_kinds(&mut out, kinds.as_slice())?;
+        Ok(out)
+    }
+
     // The sentence that says what is wrong with the sheet, after its name.
     fn sentence(&self, heap: Global, fault: TextFault) -> Result<String, AllocError>
         ensures { IfOk result (λ s. string_bytes s ≡ sentence_of self.now.text.now fault) }
@@ -138,7 +140,7 @@ impl<'a> NamedText<'a> {
         let name = self.name;
         let wrong = self.sentence(heap, fault)?;
         let mut out = format!(in heap; "{name}: {wrong}\n")?;
-        push_refusal_row(&mut out, name, fault.refusal())?;
+        self.push_refusal_row(&mut out, fault.refusal())?;
         Ok(out)
     }
 
@@ -154,7 +156,7 @@ impl<'a> NamedText<'a> {
         match judge(self.text, vertices, ties) {
             Ok(counts) => {
                 let stated = counts.vertices;
-                taken(heap, self.name, counts, &vertices[..stated])
+                self.taken(heap, counts, &vertices[..stated])
             }
             Err(fault) => self.refused(heap, fault),
         }

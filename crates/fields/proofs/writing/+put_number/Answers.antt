@@ -1,5 +1,5 @@
 use Rattle.std.proofs.Common.{◌≡◌, ℕ, ◌+◌, ◌/◌, ◌%◌, ◌^◌, ◌<◌, ◌≤◌, List, [], length, set, sym, refl, ap, ◌∙◌, arith}
-use Rattle.fields.proofs.Decimals.{numeral_digit, numeral_step, length-numeral_le}
+use Rattle.fields.proofs.Decimals.{numeral_digit, numeral_step}
 use Rattle.std.proofs.lemmas.List.{length_push}
 use Rattle.fields.specs.Numbers.{numeral}
 use Rattle.fields.specs.Lines.{overlaid}
@@ -34,9 +34,6 @@ put_number-count-requires t c = omega (arith, more c.args.number (omega arith) (
 
 pub bounds-space-count : goal.bounds-space-count
 bounds-space-count t c = omega (arith, more c.args.number (omega arith) (omega arith))
-
-pub overflow_add-result : goal.overflow_add-result
-overflow_add-result t c = omega (arith, more c.args.number (omega arith) (omega arith), length-numeral_le 20 c.args.number (omega arith) (omega arith) (omega arith))
 
 pub returns : goal.returns
 returns t c =

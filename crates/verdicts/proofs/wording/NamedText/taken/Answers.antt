@@ -5,7 +5,7 @@ use Rattle.grammar.specs.declared.records.Counts.{Counts}
 use Rattle.verdicts.specs.Tallying.{kind_count}
 use Rattle.verdicts.specs.Wording.{counts_text, kind_rows, taken_text}
 use Rattle.verdicts.proofs.Rows.{rows_same}
-use Rattle.verdicts.proofs.wording.taken.Goals as goal
+use Rattle.verdicts.proofs.wording.NamedText.taken.Goals as goal
 
 -- rows by a list of counts, where the counts are those of the vertices
 whole : (name : List ℕ) (c : Counts) (vs : List Pay) (out last : List ℕ) (cs ws zs : List ℕ) (n : ℕ)
@@ -21,7 +21,7 @@ whole name c vs out last cs ws zs n p q r len many each =
 pub returns : goal.returns
 returns c =
     let same = c.tally.auto.counts in
-    whole c.args.name.now c.args.counts c.args.vertices.now (string_bytes c.in_ok-out.out) (string_bytes c.push_kinds.new.out) c.as_slice.result.now
+    whole c.args.self.now.name.now c.args.counts c.args.vertices.now (string_bytes c.in_ok-out.out) (string_bytes c.push_kinds.new.out) c.as_slice.result.now
     c.tally.new.counts (drop (length c.tally.new.counts) c.in_ok-kinds.kinds.items) c.in_ok-kinds.kinds.len
     c.in_ok-push_kinds.ensures c.in_ok-out.ensures c.as_slice.ensures.value (same ∙ c.as_mut_slice.ensures.len) c.in_ok-kinds.ensures.len
     (λ k h. c.tally.ensures k (omega (arith, same)))
