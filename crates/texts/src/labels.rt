@@ -4,11 +4,11 @@ ghost use Rattle.std.specs.Prelude.{◌≡◌};
 ghost use Rattle.grammar.proofs.Forms.{code_faithful, pay_faithful};
 ghost use Rattle.grammar.specs.Labels.{Form, Faithful, code_form, pay_form};
 
-use graphs::{Code, Pay};
+use graphs::{Code, HIGHEST_CODE, LOWEST_CODE, Pay};
 use std::ops::Range;
 
 // The numbers that a code or a kind may be.
-pub const CODES: Range<usize> = 1..10_000;
+pub const CODES: Range<usize> = LOWEST_CODE as usize..HIGHEST_CODE as usize + 1;
 
 // The numbers that an amount in pence may be.
 pub const PENCE: Range<usize> = 0..1_000_000_000;

@@ -12,12 +12,12 @@ use super::showing::shown;
 use super::tallying::tally;
 use faults::{FieldTrouble, LineFault, Refusal, TextFault};
 use grammar::Counts;
-use graphs::{Pay, Tie};
+use graphs::{HIGHEST_CODE, Pay, Tie};
 use std::alloc::{AllocError, Global};
 use texts::point;
 
 // One more than the greatest kind.
-const KINDS: usize = 10_000;
+const KINDS: usize = HIGHEST_CODE as usize + 1;
 
 // What is wrong, in words that follow the faulty bytes.
 // As `Display` it would need a type of its own here, since the fault is another crate's: that is no plainer.
