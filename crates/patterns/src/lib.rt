@@ -37,7 +37,7 @@ fn are_good_ties(size: usize, ties: &[Tie<Code>]) -> bool
     ensures { result ≡ good_ends size ties.now }
 {
     let mut rest = ties;
-    // Each tie is compared with the later ones alone, which a `for` over the ties does not hand out.
+    // Each tie is compared with the later ones alone: a `for` over the ties does not hand these out, and an index for them would be no plainer.
     while let Some((tie, later)) = rest.split_first() {
         if !is_good_tie(*tie, size) || !is_not_repeated(*tie, later) {
             return false;
@@ -59,5 +59,5 @@ pub fn is_good_pattern(codes: &[Code], ties: &[Tie<Code>]) -> bool
     ensures { result ≡ can_enter codes.now ties.now }
 {
     let size = codes.len();
-    1 <= size && size <= MOST_VERTICES && are_good_codes(codes) && are_good_ties(size, ties)
+    (1..=MOST_VERTICES).contains(&size) && are_good_codes(codes) && are_good_ties(size, ties)
 }
