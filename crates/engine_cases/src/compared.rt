@@ -26,6 +26,7 @@ struct Compared<'a, S, K> {
 impl<'a, S: Sheet, K: Key<S::Label>> Compared<'a, S, K> {
     // How often the row is listed for the pattern of this number.
     fn times_listed(&self, number: usize, row: &[usize]) -> usize {
+        // a `while let`, since each row is as long as its pattern asks
         let mut rest = self.numbers;
         let mut times = 0;
         while let Some((first, after)) = rest.split_first() {

@@ -27,19 +27,16 @@ impl<L> Sample<L> {
 
 // The pattern of these codes and ties.
 pub fn pattern(heap: Global, codes: &[u32], links: &[Link]) -> Result<Sample<Code>, AllocError> {
-    let mut labels = Vec::new(heap);
-    for number in codes {
-        labels.push(Code { number: *number })?;
-    }
-    let mut ties = Vec::new(heap);
-    for (from, to, number) in links {
-        ties.push(Tie {
-            from: *from,
-            to: *to,
-            label: Code { number: *number },
-        })?;
-    }
-    Ok(Sample { labels, ties })
+    let labels = codes.iter().map(|number| Code { number: *number });
+    let ties = links.iter().map(|(from, to, number)| Tie {
+        from: *from,
+        to: *to,
+        label: Code { number: *number },
+    });
+    Ok(Sample {
+        labels: labels.collect(heap)?,
+        ties: ties.collect(heap)?,
+    })
 }
 
 // A pay label without an amount.

@@ -48,6 +48,7 @@ pub enum LineFault {
 }
 
 // A faulty line of a text, by the text's number, which the caller gives, and its own: 1 for the first.
+// The rules speak of texts 1 and 2 (a rule of the project), and the pointer has an answer for any other number.
 #[derive(Clone, Copy, PartialEq, Eq, Debug)]
 pub struct FaultyLine {
     pub text: usize,

@@ -48,6 +48,7 @@ fn put_numbers(numbers: &[usize], space: &mut [u8]) -> usize
     ensures count { result ≡ length (numbers_text numbers.now) }
     ensures after { space.new ≡ overlaid (numbers_text numbers.now) space.old }
 {
+    // the place is added up, since each number has as many bytes as it has digits
     let mut at = 0;
     for number in numbers {
         space[at] = b'\t';

@@ -16,7 +16,7 @@ pub fn tie<L>(from: usize, to: usize, label: L) -> Tie<L> {
 }
 
 // Reads a text with codes, as text 1, where there is room for three vertices and two ties.
-// No proof knows how large an array of a type parameter is, so each label type has a function of its own.
+// One function over the label type was tried: no proof knows how large a local array of a type parameter is.
 pub fn read_codes(text: &[u8]) -> Result<Counts, TextFault> {
     read_graph(text, 1, &mut [NO_CODE; 3], &mut [tie(0, 0, NO_CODE); 2])
 }

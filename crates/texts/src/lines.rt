@@ -66,6 +66,7 @@ fn read_label<L: Label>(fields: &mut Pieces, place: usize) -> Result<L, FieldFau
     let first = read_number(fields, place, L::first(), FieldTrouble::OutOfRange)?;
     let second = match L::second() {
         Some(range) => read_number(fields, place + 1, range, FieldTrouble::OutOfRange)?,
+        // a type of one field passes over it
         None => 0,
     };
     Ok(L::make(first, second))

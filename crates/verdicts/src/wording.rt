@@ -49,6 +49,7 @@ fn field_complaint(trouble: FieldTrouble) -> &'static str
 }
 
 // A sheet's text, with the name that is shown of it.
+// What is written stays a parameter of its methods: in the struct, each would have to promise that name and text stay.
 #[derive(Clone, Copy)]
 struct NamedText<'a> {
     name: &'a str,
@@ -123,7 +124,7 @@ impl<'a> NamedText<'a> {
             TextFault::InLine(faulty) => {
                 let bytes = shown(heap, point(self.text, self.text, fault))?;
                 let wrong = complaint(faulty.fault);
-                // of a refusal, which has field 0 where there is none
+                // by the numbers of the refusal line, with 0 for no field: both lines on a sheet name one place
                 if field == 0 {
                     format!(in heap; "line {line}: \"{bytes}\" {wrong}")
                 } else {
@@ -173,6 +174,7 @@ pub fn verdict(heap: Global, name: &str, text: &[u8]) -> Result<String, AllocErr
         to: 0,
         label: blank,
     };
+    // of full length, since the reader fills slices of its caller's (a rule of the project)
     let mut vertices = vec![in heap; blank; MOST_ROWS]?;
     let mut ties = vec![in heap; tie; MOST_ROWS]?;
     let name = shown(heap, name.as_bytes())?;
