@@ -1,5 +1,5 @@
 -- What a list holds as things are written at its start, one after another.
-use Rattle.std.proofs.Common.{◌≡◌, ℕ, ◌+◌, ◌-◌, ◌<◌, ◌≤◌, List, [], ◌∷◌, ◌++◌, length, get_or, take, drop, set, sym, ap, ◌∙◌, arith}
+use Rattle.std.proofs.Common.{◌≡◌, ℕ, ◌+◌, ◌-◌, ◌<◌, List, [], ◌∷◌, ◌++◌, length, get_or, take, drop, set, sym, ap, ◌∙◌, arith}
 use borrow.Rule.Slice.PartMut.{put_mid}
 use Rattle.std.proofs.lemmas.List.{append_assoc, drop_more, set_at, length_push, length-append, drop_at, drop-drop, drop_all, append-nil, take_at, length-drop, take_rest}
 use Rattle.fields.specs.Lines.{overlaid}
@@ -31,6 +31,3 @@ module _ {X : Type 0} where
       ∙ ap (λ t. xs ++ (zs ++ t)) (drop-drop (length zs) (length xs) ys)
       ∙ ap (λ t. xs ++ (zs ++ drop t ys)) (sym (length-append xs zs))
       ∙ sym (append_assoc xs zs (drop (length (xs ++ zs)) ys))
-
-  pub room_from : (s : List X) (a n : ℕ) → a + n ≤ length s → n ≤ length (take (length s - a) (drop a s))
-  room_from s a n h = rw take_rest (simp length-drop (omega arith))
