@@ -93,7 +93,7 @@ impl Progress {
     }
 }
 
-// Reads a text's lines one after another into the lists, up to the first fault.
+// Reads a text's lines one after another into the lists, up to the first fault. The text has a number, since the rules speak of texts 1 and 2 (a rule of the project).
 // A struct of the two lists would need clauses on what its borrows leave, so it is no plainer.
 fn read_lines<L: Label>(
     text: &[u8],

@@ -36,7 +36,7 @@ fn complaint(fault: LineFault) -> &'static str
     }
 }
 
-// What is wrong with a field, in such words.
+// What is wrong with a field, in such words; no `Display` either.
 fn field_complaint(trouble: FieldTrouble) -> &'static str
     ensures { result.now ≡ field_complaint trouble }
 {
