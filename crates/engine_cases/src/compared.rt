@@ -70,7 +70,7 @@ impl<'a, S: Sheet, K: Key<S::Label>> Compared<'a, S, K> {
 }
 
 // Checks that what is listed of the book's patterns is each occurrence once and nothing else, and that the work list is all zeros then.
-pub fn check_listing<S: Sheet, K: Key<S::Label>>(
+pub(crate) fn check_listing<S: Sheet, K: Key<S::Label>>(
     rt: &impl Abort,
     heap: Global,
     drawn: &DrawnBook,

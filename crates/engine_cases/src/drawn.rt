@@ -17,7 +17,7 @@ pub struct DrawnBook {
 
 impl DrawnBook {
     // Three patterns of one to four vertices, and a book of them.
-    pub fn draw(heap: Global, random: &mut Random) -> Result<DrawnBook, Fail> {
+    pub(crate) fn draw(heap: Global, random: &mut Random) -> Result<DrawnBook, Fail> {
         let mut book = Book::blank();
         let mut patterns = Vec::new(heap);
         for _ in 0..3 {

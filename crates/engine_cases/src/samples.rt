@@ -1,5 +1,8 @@
 // Small graphs with labels of any type: patterns written as numbers, and samples that the generator makes up.
 
+ghost use Rattle.std.specs.Prelude.{◌≡◌, map, IfOk};
+ghost use Rattle.engine_cases.specs.Patterns.{code_of, tie_of};
+
 use crate::random::Random;
 use graphs::{Code, Pay, Tie};
 use sheets::table::TableSheet;
@@ -17,7 +20,10 @@ pub struct Sample<L> {
 
 impl<L> Sample<L> {
     // The table sheet of the labels and ties.
-    pub fn sheet(&self) -> TableSheet<'_, L> {
+    pub fn sheet(&self) -> TableSheet<'_, L>
+        ensures labels { result.labels.now ≡ self.now.labels.items }
+        ensures ties { result.ties.now ≡ self.now.ties.items }
+    {
         TableSheet {
             labels: self.labels.as_slice(),
             ties: self.ties.as_slice(),
@@ -26,21 +32,26 @@ impl<L> Sample<L> {
 }
 
 // The pattern of these codes and ties.
-pub fn pattern(heap: Global, codes: &[u32], links: &[Link]) -> Result<Sample<Code>, AllocError> {
+pub fn pattern(heap: Global, codes: &[u32], links: &[Link]) -> Result<Sample<Code>, AllocError>
+    ensures labels { IfOk result (λ s. s.labels.items ≡ map code_of codes.now) }
+    ensures ties { IfOk result (λ s. s.ties.items ≡ map tie_of links.now) }
+{
     let labels = codes.iter().map(|number| Code { number: *number });
+    let labels = labels.collect(heap)?;
     let ties = links.iter().map(|(from, to, number)| Tie {
         from: *from,
         to: *to,
         label: Code { number: *number },
     });
-    Ok(Sample {
-        labels: labels.collect(heap)?,
-        ties: ties.collect(heap)?,
-    })
+    let ties = ties.collect(heap)?;
+    Ok(Sample { labels, ties })
 }
 
 // A pay label without an amount.
-pub fn pay(kind: u32) -> Pay {
+pub fn pay(kind: u32) -> Pay
+    ensures kind { result.kind ≡ kind }
+    ensures pence { result.pence ≡ 0 }
+{
     Pay { kind, pence: 0 }
 }
 
@@ -66,7 +77,7 @@ impl Drawn for Pay {
 }
 
 // A graph of n vertices with a tie between about one in `sparse` ordered pairs.
-pub fn draw_sample<L: Drawn>(
+pub(crate) fn draw_sample<L: Drawn>(
     heap: Global,
     random: &mut Random,
     n: usize,

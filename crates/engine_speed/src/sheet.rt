@@ -22,7 +22,7 @@ pub const USES: u32 = 70;
 pub const HOUSEHOLD: u32 = 80;
 
 // Vertices come in groups of four: person, account, site, login. `groups` of them.
-pub fn make_sample(heap: Global, groups: usize) -> Result<Sample<Pay>, AllocError> {
+pub(crate) fn make_sample(heap: Global, groups: usize) -> Result<Sample<Pay>, AllocError> {
     let mut labels = Vec::new(heap);
     let mut ties = Vec::new(heap);
     let mut random = Random::new(2026);

@@ -2,11 +2,11 @@
 
 use graphs::{Code, Tie};
 
-pub fn code(number: u32) -> Code {
+pub(crate) fn code(number: u32) -> Code {
     Code { number }
 }
 
-pub fn tie(from: usize, to: usize, number: u32) -> Tie<Code> {
+pub(crate) fn tie(from: usize, to: usize, number: u32) -> Tie<Code> {
     Tie {
         from,
         to,

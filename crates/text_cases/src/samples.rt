@@ -11,23 +11,23 @@ pub const NO_CODE: Code = Code { number: 0 };
 
 pub const NO_PAY: Pay = Pay { kind: 0, pence: 0 };
 
-pub fn tie<L>(from: usize, to: usize, label: L) -> Tie<L> {
+pub(crate) fn tie<L>(from: usize, to: usize, label: L) -> Tie<L> {
     Tie { from, to, label }
 }
 
 // Reads a text with codes, as text 1, where there is room for three vertices and two ties.
 // One function over the label type was tried: no proof knows how large a local array of a type parameter is.
-pub fn read_codes(text: &[u8]) -> Result<Counts, TextFault> {
+pub(crate) fn read_codes(text: &[u8]) -> Result<Counts, TextFault> {
     read_graph(text, 1, &mut [NO_CODE; 3], &mut [tie(0, 0, NO_CODE); 2])
 }
 
 // The same with pay labels, as text 2.
-pub fn read_pay(text: &[u8]) -> Result<Counts, TextFault> {
+pub(crate) fn read_pay(text: &[u8]) -> Result<Counts, TextFault> {
     read_graph(text, 2, &mut [NO_PAY; 3], &mut [tie(0, 0, NO_PAY); 2])
 }
 
 // Checks that a text was refused with these numbers.
-pub fn refused(
+pub(crate) fn refused(
     rt: &impl Abort,
     read: Result<Counts, TextFault>,
     number: usize,
@@ -47,6 +47,11 @@ pub fn refused(
 }
 
 // Checks that a text was taken with these counts.
-pub fn taken(rt: &impl Abort, read: Result<Counts, TextFault>, vertices: usize, ties: usize) {
+pub(crate) fn taken(
+    rt: &impl Abort,
+    read: Result<Counts, TextFault>,
+    vertices: usize,
+    ties: usize,
+) {
     assert_eq!(rt; read, Ok(Counts { vertices, ties }));
 }
