@@ -42,7 +42,7 @@ def signatures(text):
 
 def bodies(name, text):
     """The functions of a file, whole, with names and numbers taken out, for twins."""
-    for found in re.finditer(r"^( *)(pub )?fn (\w+).*?\n\1\}", text, re.M | re.S):
+    for found in re.finditer(r"^( *)(pub(?:\(\w+\))? )?fn (\w+).*?\n\1\}", text, re.M | re.S):
         lines = [line.strip() for line in found.group(0).split("\n")[1:] if line.strip() and not line.strip().startswith(("//", "requires", "ensures"))]
         shape = re.sub(r"\b[a-z_][a-z_0-9]*\b|\b[A-Z]\w*\b|\b\d[\d_]*\b", "x", " ".join(lines))
         yield f"{name}: {found.group(3)}", shape
