@@ -24,13 +24,12 @@ use writing::{Listing, list_rows};
 // The longest lists that the rules allow.
 const ROOM: usize = 1_000_000;
 
-fn cut_all(rt: &HostRuntime, book: Book, models: &[Model]) -> anyhow::Result<Book> {
-    let mut cut = book;
+fn cut_all(rt: &HostRuntime, book: &mut Book, models: &[Model]) -> anyhow::Result<()> {
     for model in models {
         let pattern = pattern(rt.alloc(), model.codes, model.links)?;
-        cut = with_sample(&cut, &pattern).map_err(|_| anyhow!("a pattern was refused"))?;
+        *book = with_sample(book, &pattern).map_err(|_| anyhow!("a pattern was refused"))?;
     }
-    Ok(cut)
+    Ok(())
 }
 
 // Lists the rows of all patterns, and says how many milliseconds that took.
@@ -78,7 +77,7 @@ fn run(rt: &HostRuntime) -> anyhow::Result<()> {
     let start = Instant::now(rt)?;
     let mut book = Book::blank();
     for models in [ALONE, SHARED, LARGE] {
-        book = cut_all(rt, book, &models)?;
+        cut_all(rt, &mut book, &models)?;
     }
     let cut = start.elapsed(rt)?.as_micros();
     let patterns = book.tables.patterns.as_slice().len();

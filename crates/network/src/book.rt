@@ -55,8 +55,8 @@ impl Book {
         ensures pieces { pieces_in result.tables ≡ pieces_in self.now.tables }
         ensures patterns { patterns_in result.tables ≡ patterns_in self.now.tables ++ pattern_of pattern ∷ [] }
     {
-        let mut tables = self.tables;
-        tables.patterns.push(pattern);
-        Book { tables }
+        let mut book = *self;
+        book.tables.patterns.push(pattern);
+        book
     }
 }

@@ -1,7 +1,7 @@
 // A list of at most so many items, which lie in the value itself: what stands on it does not allocate.
 #![tactic(auto)]
 
-ghost use Rattle.std.specs.Prelude.{◌≡◌, ◌+◌, ◌<◌, ◌≤◌, ◌==◌, [], ◌∷◌, ◌++◌, length};
+ghost use Rattle.std.specs.Prelude.{◌≡◌, ◌+◌, ◌<◌, ◌≤◌, ◌==◌, [], ◌∷◌, ◌++◌, length, take};
 
 use std::marker::Model;
 
@@ -80,5 +80,12 @@ impl<T: Copy, const N: usize> ShortList<T, N> {
         let array = &mut self.array[..];
         array[start..end].copy_from_slice(items);
         self.count = end;
+    }
+
+    // Keeps the first items, at most that many.
+    pub fn truncate(&mut self, count: usize)
+        ensures { self.new.items ≡ take count self.old.items }
+    {
+        self.count = self.count.min(count);
     }
 }
