@@ -17,7 +17,14 @@ impl<S: Sheet> Sheet for Part<S> {
     fn size(&self) -> usize {
         let size_below = self.below.size();
         let picks = self.picks();
-        picks.iter().filter(|pick| **pick < size_below).count()
+        let mut size = 0;
+        // `filter` with `count` takes nearly three times as long.
+        for pick in picks {
+            if *pick < size_below {
+                size += 1;
+            }
+        }
+        size
     }
 
     fn label(&self, vertex: usize) -> Option<S::Label> {

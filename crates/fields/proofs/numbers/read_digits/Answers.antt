@@ -10,6 +10,4 @@ pub overflow_mul-value : goal.overflow_mul-value
 overflow_mul-value c = omega (arith, small _ _ c.loop-byte.invariant.1 (omega arith))
 
 pub overflow_add-value : goal.overflow_add-value
-overflow_add-value c =
-    let digit = c.in_ok-value.ensures.value in
-    omega (arith, digit.0, digit.1, small _ _ c.loop-byte.invariant.1 (omega arith))
+overflow_add-value c = omega (arith, small _ _ c.loop-byte.invariant.1 (omega arith))

@@ -1,17 +1,16 @@
-use Rattle.std.proofs.Common.{◌≡◌, ◌≢◌, subst, rules, tests}
-use Rattle.std.proofs.lemmas.Iterator.{IsFirst-from_position, YieldsList-from_slice}
-use Rattle.std.proofs.lemmas.List.{take_rest}
-use Rattle.fields.proofs.Splits.{CutBy, cut_by}
+use Rattle.std.proofs.Common.{◌≡◌, length, Some, None, ◌∙◌, arith}
+use Rattle.std.specs.List.{HoldsAt}
+use Rattle.std.proofs.lemmas.List.{take_rest, get_or_default}
+use Rattle.fields.proofs.Splits.{cut_by}
 use Rattle.fields.proofs.pieces.cutting.cut.Goals as goal
 
-pub returns-in-Some-clause-cuts : goal.returns-in-Some-clause-cuts
-returns-in-Some-clause-cuts c =
+pub returns-then-byte-separator-clause-cuts : goal.returns-then-byte-separator-clause-cuts
+returns-then-byte-separator-clause-cuts c =
     let s = c.args.separator in
-    let first = IsFirst-from_position _ _ _ (λ x. x ≡ s) (λ x. x ≢ s) c.position.ensures.ran (YieldsList-from_slice _ c.iter.ensures.rest) (λ x q k. search (rules, tests)) (λ x q k. search (rules, tests)) in
-    rw take_rest (subst (CutBy s c.args.text.now) c.in-Some.is (cut_by s c.args.text.now c.position.result first))
+    let there : HoldsAt (λ b. b ≡ s) c.args.text.now c.loop-end.end = λ d. get_or_default c.args.text.now c.loop-end.end d 0 (omega arith) ∙ c.if-byte-separator.true in
+    rw take_rest (cut_by s c.args.text.now (Some c.loop-end.end) (omega arith, there, c.loop-end.invariant))
 
-pub returns-in-None-clause-cuts : goal.returns-in-None-clause-cuts
-returns-in-None-clause-cuts c =
-    let s = c.args.separator in
-    let none = IsFirst-from_position _ _ _ (λ x. x ≡ s) (λ x. x ≢ s) c.position.ensures.ran (YieldsList-from_slice _ c.iter.ensures.rest) (λ x q k. search (rules, tests)) (λ x q k. search (rules, tests)) in
-    subst (CutBy s c.args.text.now) c.in-None.is (cut_by s c.args.text.now c.position.result none)
+pub returns-clause-cuts : goal.returns-clause-cuts
+returns-clause-cuts c =
+    let all : c.loop-end.end ≡ length c.args.text.now = omega arith in
+    cut_by c.args.separator c.args.text.now None (rw all at c.loop-end.invariant)
