@@ -7,7 +7,7 @@ use Rattle.fields.specs.Split.{split}
 use Rattle.faults.specs.declared.FieldTrouble.{FieldTrouble}
 use Rattle.faults.specs.declared.FieldTrouble.TheVariants.{OutOfRange, MissingVertex}
 use Rattle.faults.specs.declared.FieldFault.{FieldFault}
-use Rattle.std.specs.declared.ops.Range.{Range}
+use Rattle.grammar.specs.declared.records.Range.{Range}
 use Rattle.grammar.specs.Labels.{Form, inside}
 use Rattle.grammar.specs.Reading.{State, and_then, judged, number_in, second_in, label_in, below, first_of, rest_of, tie_in}
 use Rattle.grammar.specs.Pointing.{field_at, TroubleOf}
@@ -47,21 +47,21 @@ module _ {L : Type 0} (s : State L) (line : List ℕ) where
   Troubled f = TroubleOf s f.trouble (field_at f.field line)
 
   -- a number is not in its range
-  abbrev Outside : Range ℕ → FieldTrouble → List ℕ → Type 0
+  abbrev Outside : Range → FieldTrouble → List ℕ → Type 0
   Outside range trouble bytes = (n : ℕ) → number_of bytes ≡ Some n → inside range n ≡ false → TroubleOf s trouble bytes
 
-  judged_blame : (k : ℕ) (range : Range ℕ) (trouble : FieldTrouble) (bytes : List ℕ) (o : Option ℕ) → field_at k line ≡ bytes → number_of bytes ≡ o
+  judged_blame : (k : ℕ) (range : Range) (trouble : FieldTrouble) (bytes : List ℕ) (o : Option ℕ) → field_at k line ≡ bytes → number_of bytes ≡ o
       → Outside range trouble bytes → (f : FieldFault) → judged k range trouble o ≡ Err f → Troubled f
   judged_blame k range trouble bytes None at e out f h = subst Troubled (same_err _ f h) (ap number_of at ∙ e)
   judged_blame k range trouble bytes (Some n) at e out f h =
       let p = cond_err (inside range n) n (record { field = k; trouble = trouble }) f h in
       subst Troubled p.1 (subst (TroubleOf s trouble) (sym at) (out n e p.0))
 
-  pub number_blame : (k : ℕ) (range : Range ℕ) (trouble : FieldTrouble) (bytes : List ℕ) → field_at k line ≡ bytes → Outside range trouble bytes
+  pub number_blame : (k : ℕ) (range : Range) (trouble : FieldTrouble) (bytes : List ℕ) → field_at k line ≡ bytes → Outside range trouble bytes
       → (f : FieldFault) → number_in k range trouble bytes ≡ Err f → Troubled f
   number_blame k range trouble bytes at out f h = judged_blame k range trouble bytes (number_of bytes) at refl out f h
 
-  second_blame : (form : Form L) (o : Option (Range ℕ)) (k a : ℕ) (fs : List (List ℕ)) → field_at (k + 1) line ≡ first_of fs → (f : FieldFault)
+  second_blame : (form : Form L) (o : Option Range) (k a : ℕ) (fs : List (List ℕ)) → field_at (k + 1) line ≡ first_of fs → (f : FieldFault)
       → second_in form o k a fs ≡ Err f → Troubled f
   second_blame form None k a fs at f h = absurd (ok_err _ f h)
   second_blame form (Some range) k a fs at f h =

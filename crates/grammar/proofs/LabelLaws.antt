@@ -7,14 +7,14 @@ use Rattle.fields.specs.Numbers.{numeral, number_of}
 use Rattle.fields.proofs.Decimals.{number_written, written_number}
 use Rattle.faults.specs.declared.FieldTrouble.{FieldTrouble}
 use Rattle.faults.specs.declared.FieldTrouble.TheVariants.{OutOfRange}
-use Rattle.std.specs.declared.ops.Range.{Range}
+use Rattle.grammar.specs.declared.records.Range.{Range}
 use Rattle.grammar.specs.Labels.{Form, Faithful, inside, width, numbers_of}
 use Rattle.grammar.specs.Reading.{and_then, judged, number_in, second_in, label_in, first_of, rest_of}
 use Rattle.grammar.specs.Writing.{GoodLabel}
 use Rattle.grammar.proofs.Numerals.{Small}
 use Rattle.grammar.proofs.Steps.{err_ok, same_ok, then_ok, cond_ok, fields_more}
 
-module _ (k : ℕ) (range : Range ℕ) (trouble : FieldTrouble) where
+module _ (k : ℕ) (range : Range) (trouble : FieldTrouble) where
   judged_ok : (o : Option ℕ) (n : ℕ) → judged k range trouble o ≡ Ok n → (o ≡ Some n) × (inside range n ≡ true)
   judged_ok None n h = absurd (err_ok _ n h)
   judged_ok (Some m) n h =
@@ -27,25 +27,25 @@ module _ (k : ℕ) (range : Range ℕ) (trouble : FieldTrouble) where
   pub number_in_lem : (n : ℕ) → Small n → inside range n ≡ true → number_in k range trouble (numeral n) ≡ Ok n
   number_in_lem n w h = ap (judged k range trouble) (written_number n w) ∙ cond-true (inside range n) _ _ h
 
-pub inside_end : (range : Range ℕ) (n : ℕ) → inside range n ≡ true → n < range.end
+pub inside_end : (range : Range) (n : ℕ) → inside range n ≡ true → n < range.end
 inside_end range n h = ltb-true _ _ (and_parts _ _ h).1
 
 -- the count and the numbers of a label, by its second field
-abbrev width_by : Option (Range ℕ) → ℕ
+abbrev width_by : Option Range → ℕ
 width_by o = elim o [ None ↦ 1 | Some r ↦ 2 ]
 
-abbrev numbers_by : {L : Type 0} → Option (Range ℕ) → Form L → L → List ℕ
+abbrev numbers_by : {L : Type 0} → Option Range → Form L → L → List ℕ
 numbers_by o f l = elim o [ None ↦ f.one l ∷ [] | Some r ↦ f.one l ∷ f.two l ∷ [] ]
 
-width_some : (o : Option (Range ℕ)) → (n : ℕ) × (width_by o ≡ suc n)
+width_some : (o : Option Range) → (n : ℕ) × (width_by o ≡ suc n)
 width_some None = (0, refl)
 width_some (Some r) = (1, refl)
 
 module _ {L : Type 0} (form : Form L) where
-  abbrev SecondGood : Option (Range ℕ) → L → Type 0
+  abbrev SecondGood : Option Range → L → Type 0
   SecondGood o l = IfSome o (λ range. inside range (form.two l) ≡ true)
 
-  second_ok : (o : Option (Range ℕ)) (k a : ℕ) (fs : List (List ℕ)) (l : L) → ((a b : ℕ) → form.one (form.make a b) ≡ a)
+  second_ok : (o : Option Range) (k a : ℕ) (fs : List (List ℕ)) (l : L) → ((a b : ℕ) → form.one (form.make a b) ≡ a)
       → ((a b : ℕ) → IfSome o (λ _. form.two (form.make a b) ≡ b)) → suc (length fs) ≡ width_by o → second_in form o k a fs ≡ Ok l
       → (form.one l ≡ a) × (numeral a ∷ fs ≡ map numeral (numbers_by o form l)) × SecondGood o l
   second_ok None k a fs l ones twos n h =
@@ -73,7 +73,7 @@ module _ {L : Type 0} (form : Form L) where
       let r = second_ok form.second k p.0 (rest_of fs) l faith.ones faith.twos many p.2 in
       (f.0 ∙ ap (λ b. b ∷ rest_of fs) q.0 ∙ r.1, record { first = ap (inside form.first) r.0 ∙ q.1; second = r.2 })
 
-  second_in_lem : (o : Option (Range ℕ)) (k : ℕ) (l : L) → form.make (form.one l) (form.two l) ≡ l
+  second_in_lem : (o : Option Range) (k : ℕ) (l : L) → form.make (form.one l) (form.two l) ≡ l
       → (o ≡ None → (a b c : ℕ) → form.make a b ≡ form.make a c) → Small (form.one l) → inside form.first (form.one l) ≡ true
       → IfSome o (λ r. r.end ≤ 10 ^ 9) → SecondGood o l
       → and_then (λ e. e) (number_in k form.first OutOfRange (first_of (map numeral (numbers_by o form l)))) (λ a. second_in form o k a (rest_of (map numeral (numbers_by o form l)))) ≡ Ok l
@@ -94,14 +94,14 @@ module _ {L : Type 0} (form : Form L) where
   label_in_lem faith k l good =
       second_in_lem form.second k l (faith.whole l) faith.alone (first_small faith l good) good.first faith.both good.second
 
-  second_small : (o : Option (Range ℕ)) (l : L) → Small (form.one l) → IfSome o (λ r. r.end ≤ 10 ^ 9) → SecondGood o l → AllByRecursion Small (numbers_by o form l)
+  second_small : (o : Option Range) (l : L) → Small (form.one l) → IfSome o (λ r. r.end ≤ 10 ^ 9) → SecondGood o l → AllByRecursion Small (numbers_by o form l)
   second_small None l small both second = (small, tt)
   second_small (Some range) l small both second = (small, (omega (arith, inside_end range (form.two l) second), tt))
 
   pub label_small : Faithful form → (l : L) → GoodLabel form l → AllByRecursion Small (numbers_of form l)
   label_small faith l good = second_small form.second l (first_small faith l good) faith.both good.second
 
-  numbers_width : (o : Option (Range ℕ)) (l : L) → length (map numeral (numbers_by o form l)) ≡ width_by o
+  numbers_width : (o : Option Range) (l : L) → length (map numeral (numbers_by o form l)) ≡ width_by o
   numbers_width None l = refl
   numbers_width (Some range) l = refl
 

@@ -9,7 +9,7 @@ use Rattle.faults.specs.declared.FieldTrouble.TheVariants.{LabelCount, MissingVe
 use Rattle.faults.specs.declared.FieldFault.{FieldFault}
 use Rattle.faults.specs.declared.LineFault.TheVariants.{InField, NoRoom}
 use Rattle.grammar.specs.declared.records.Counts.{Counts}
-use Rattle.std.specs.declared.ops.Range.{Range}
+use Rattle.grammar.specs.declared.records.Range.{Range}
 use Rattle.grammar.specs.declared.records.Record.{Record}
 use Rattle.grammar.specs.declared.records.Record.TheVariants.{Graph, Vertex, Tied, End}
 use Rattle.grammar.specs.declared.records.Stage.{Stage}
@@ -21,7 +21,7 @@ use Rattle.grammar.proofs.Numerals.{Small, line_split, text_split}
 use Rattle.grammar.proofs.LabelLaws.{number_in_lem, label_in_lem, label_small, label_width}
 use Rattle.grammar.proofs.Sayings.{letter_for, numbers_for, line_for, text_for, Allowed}
 
-width_small : (o : Option (Range ℕ)) → Small (elim o [ None ↦ 1 | Some r ↦ 2 ])
+width_small : (o : Option Range) → Small (elim o [ None ↦ 1 | Some r ↦ 2 ])
 width_small None = omega arith
 width_small (Some r) = omega arith
 

@@ -2,18 +2,18 @@
 use Rattle.std.specs.Prelude.{◌≡◌, ℕ, ◌^◌, ◌≤◌, Bool, ◌&&◌, List, [], ◌∷◌, IfSome, Some, None, Option, OnSome, nat_le, nat_lt}
 use Rattle.graphs.specs.declared.Code.{Code}
 use Rattle.graphs.specs.declared.Pay.{Pay}
-use Rattle.std.specs.declared.ops.Range.{Range}
+use Rattle.grammar.specs.declared.records.Range.{Range}
 
 pub record Form (L : Type 0) : Type 0 where
-  pub first : Range ℕ
-  pub second : Option (Range ℕ)
+  pub first : Range
+  pub second : Option Range
   -- the label of two numbers, of which one field has only the first
   pub make : ℕ → ℕ → L
   -- the numbers of a label
   pub one : L → ℕ
   pub two : L → ℕ
 
-abbrev pub inside : Range ℕ → ℕ → Bool
+abbrev pub inside : Range → ℕ → Bool
 inside r n = nat_le r.start n && nat_lt n r.end
 
 -- how many fields a label has
@@ -34,10 +34,10 @@ pub record Faithful {L : Type 0} (f : Form L) : Type 0 where
   pub both : IfSome f.second (λ r. r.end ≤ 10 ^ 9)
 
 -- codes and kinds go from 1 to 9,999, and pence from 0 to 999,999,999
-abbrev pub code_range : Range ℕ
+abbrev pub code_range : Range
 code_range = record { start = 1; end = 10000 }
 
-abbrev pub pence_range : Range ℕ
+abbrev pub pence_range : Range
 pence_range = record { start = 0; end = 1000000000 }
 
 -- a code is its one number; a pay label is its kind and its pence

@@ -11,7 +11,7 @@ use Rattle.faults.specs.declared.LineFault.TheVariants.{TextStops, NoLineFeed, L
 use Rattle.faults.specs.declared.TextFault.{TextFault}
 use Rattle.faults.specs.declared.TextFault.TheVariants.{TooLong, InLine}
 use Rattle.grammar.specs.declared.records.Counts.{Counts}
-use Rattle.std.specs.declared.ops.Range.{Range}
+use Rattle.grammar.specs.declared.records.Range.{Range}
 use Rattle.grammar.specs.declared.records.Record.{Record}
 use Rattle.grammar.specs.declared.records.Record.TheVariants.{Graph, Vertex, Tied, End}
 use Rattle.grammar.specs.declared.records.Stage.{Stage}
@@ -36,26 +36,26 @@ abbrev pub rest_of : List (List ℕ) → List (List ℕ)
 rest_of [] = []
 rest_of (f ∷ fs) = fs
 
-abbrev pub judged : ℕ → Range ℕ → FieldTrouble → Option ℕ → Result ℕ FieldFault
+abbrev pub judged : ℕ → Range → FieldTrouble → Option ℕ → Result ℕ FieldFault
 judged k range trouble None = Err (record { field = k; trouble = NoNumber })
 judged k range trouble (Some n) = cond (inside range n) (Ok n) (Err (record { field = k; trouble = trouble }))
 
 -- the number in field k of a line, within a range
-abbrev pub number_in : ℕ → Range ℕ → FieldTrouble → List ℕ → Result ℕ FieldFault
+abbrev pub number_in : ℕ → Range → FieldTrouble → List ℕ → Result ℕ FieldFault
 number_in k range trouble bytes = judged k range trouble (number_of bytes)
 
 -- the label in the fields from k on
-abbrev pub second_in : {L : Type 0} → Form L → Option (Range ℕ) → ℕ → ℕ → List (List ℕ) → Result L FieldFault
+abbrev pub second_in : {L : Type 0} → Form L → Option Range → ℕ → ℕ → List (List ℕ) → Result L FieldFault
 second_in form None k a fs = Ok (form.make a 0)
 second_in form (Some range) k a fs = and_then (λ e. e) (number_in (k + 1) range OutOfRange (first_of fs)) (λ b. Ok (form.make a b))
 
 abbrev pub label_in : {L : Type 0} → Form L → ℕ → List (List ℕ) → Result L FieldFault
 label_in form k fs = and_then (λ e. e) (number_in k form.first OutOfRange (first_of fs)) (λ a. second_in form form.second k a (rest_of fs))
 
-abbrev pub only : ℕ → Range ℕ
+abbrev pub only : ℕ → Range
 only n = record { start = n; end = n + 1 }
 
-abbrev pub below : ℕ → Range ℕ
+abbrev pub below : ℕ → Range
 below n = record { start = 0; end = n }
 
 -- whether a tie of the list runs from one vertex to another

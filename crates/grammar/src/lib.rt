@@ -3,4 +3,4 @@
 
 mod records;
 
-pub use records::{Counts, Record, Stage};
+pub use records::{Counts, Range, Record, Stage};

@@ -2,6 +2,13 @@
 
 use graphs::Tie;
 
+// The numbers from `start` up to, and without, `end`. The library's range would do, but it is no copy.
+#[derive(Clone, Copy, PartialEq, Eq, Debug)]
+pub struct Range {
+    pub start: usize,
+    pub end: usize,
+}
+
 // How far a text is read: nothing yet, its head, some of its ties, or its end.
 #[derive(Clone, Copy, PartialEq, Eq, Debug)]
 pub enum Stage {

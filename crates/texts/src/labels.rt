@@ -4,14 +4,20 @@ ghost use Rattle.std.specs.Prelude.{◌≡◌};
 ghost use Rattle.grammar.proofs.Forms.{code_faithful, pay_faithful};
 ghost use Rattle.grammar.specs.Labels.{Form, Faithful, code_form, pay_form};
 
+use grammar::Range;
 use graphs::{Code, HIGHEST_CODE, LOWEST_CODE, Pay};
-use std::ops::Range;
 
 // The numbers that a code or a kind may be.
-pub const CODES: Range<usize> = LOWEST_CODE as usize..HIGHEST_CODE as usize + 1;
+pub const CODES: Range = Range {
+    start: LOWEST_CODE as usize,
+    end: HIGHEST_CODE as usize + 1,
+};
 
 // The numbers that an amount in pence may be.
-pub const PENCE: Range<usize> = 0..1_000_000_000;
+pub const PENCE: Range = Range {
+    start: 0,
+    end: 1_000_000_000,
+};
 
 // A type of labels, written in one or two fields of numbers.
 pub trait Label: Copy {
@@ -19,11 +25,11 @@ pub trait Label: Copy {
     ghost form: { Form Self };
 
     // The numbers that the first field allows.
-    fn first() -> Range<usize>
+    fn first() -> Range
         ensures { result ≡ form.first };
 
     // The numbers that the second field allows, where there is a second field.
-    fn second() -> Option<Range<usize>>
+    fn second() -> Option<Range>
         ensures { result ≡ form.second };
 
     // The label that the fields' numbers make; a type of one field passes over the second.
@@ -40,11 +46,11 @@ impl Label for Code {
 
     ghost faithful = { code_faithful };
 
-    fn first() -> Range<usize> {
+    fn first() -> Range {
         CODES
     }
 
-    fn second() -> Option<Range<usize>> {
+    fn second() -> Option<Range> {
         None
     }
 
@@ -58,11 +64,11 @@ impl Label for Pay {
 
     ghost faithful = { pay_faithful };
 
-    fn first() -> Range<usize> {
+    fn first() -> Range {
         CODES
     }
 
-    fn second() -> Option<Range<usize>> {
+    fn second() -> Option<Range> {
         Some(PENCE)
     }
 

@@ -8,9 +8,8 @@ ghost use Rattle.grammar.specs.Reading.{number_in, label_in, first_of, rest_of, 
 use super::labels::Label;
 use faults::{FieldFault, FieldTrouble, LineFault};
 use fields::{Pieces, parse_number};
-use grammar::{Counts, Record, Stage};
+use grammar::{Counts, Range, Record, Stage};
 use graphs::Tie;
-use std::ops::Range;
 
 // The letter that a field is; none where the field is not one byte.
 fn letter_of(field: &[u8]) -> Option<char>
@@ -26,7 +25,7 @@ fn letter_of(field: &[u8]) -> Option<char>
 fn read_number(
     fields: &mut Pieces,
     place: usize,
-    range: Range<usize>,
+    range: Range,
     trouble: FieldTrouble,
 ) -> Result<u32, FieldFault>
     ensures value { result ≡ number_in place range trouble (first_of (left fields.old)) }
@@ -39,7 +38,7 @@ fn read_number(
             field: place,
             trouble: FieldTrouble::NoNumber,
         })?;
-    if !range.contains(&(number as usize)) {
+    if !(range.start..range.end).contains(&(number as usize)) {
         return Err(FieldFault {
             field: place,
             trouble,
@@ -80,7 +79,11 @@ fn read_graph_line<L: Label>(mut fields: Pieces) -> Result<Record<L>, LineFault>
         return Err(LineFault::FieldCount);
     }
     let width = label_width::<L>();
-    read_number(&mut fields, 2, width..width + 1, FieldTrouble::LabelCount)?;
+    let only = Range {
+        start: width,
+        end: width + 1,
+    };
+    read_number(&mut fields, 2, only, FieldTrouble::LabelCount)?;
     Ok(Record::Graph)
 }
 
@@ -88,8 +91,12 @@ fn read_graph_line<L: Label>(mut fields: Pieces) -> Result<Record<L>, LineFault>
 fn read_tie<L: Label>(mut fields: Pieces, vertices: usize) -> Result<Tie<L>, FieldFault>
     ensures { result ≡ tie_in L.Label.form vertices (left fields.entry) }
 {
-    let from = read_number(&mut fields, 2, 0..vertices, FieldTrouble::MissingVertex)?;
-    let to = read_number(&mut fields, 3, 0..vertices, FieldTrouble::MissingVertex)?;
+    let stated = Range {
+        start: 0,
+        end: vertices,
+    };
+    let from = read_number(&mut fields, 2, stated, FieldTrouble::MissingVertex)?;
+    let to = read_number(&mut fields, 3, stated, FieldTrouble::MissingVertex)?;
     let label = read_label::<L>(&mut fields, 4)?;
     Ok(Tie {
         from: from as usize,
@@ -133,6 +140,8 @@ impl<'a, L: Label> SoFar<'a, L> {
     }
 
     // Whether an earlier tie runs from one vertex to another.
+    // It stays a function of its own in a program: within all of `proofread` the loop would read an end from memory at each turn.
+    #[inline(never)]
     fn has_pair(&self, from: usize, to: usize) -> bool
         ensures { result ≡ has_pair self.now.ties.now from to }
     {
