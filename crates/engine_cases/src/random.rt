@@ -30,7 +30,10 @@ impl Random {
     }
 
     // 1 or 2.
-    pub(crate) fn one_or_two(&mut self) -> u32 {
+    pub fn one_or_two(&mut self) -> u32
+        ensures state { self.new.state ≡ (self.old.state * 6_364_136_223_846_793_005 + 1_442_695_040_888_963_407) % 2 ^ 64 }
+        ensures value { result ≡ self.new.state / 2 ^ 33 % 2 + 1 }
+    {
         if self.below(2) == 0 { 1 } else { 2 }
     }
 }

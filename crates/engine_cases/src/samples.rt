@@ -1,6 +1,6 @@
 // Small graphs with labels of any type: patterns written as numbers, and samples that the generator makes up.
 
-ghost use Rattle.std.specs.Prelude.{◌≡◌, map, IfOk};
+ghost use Rattle.std.specs.Prelude.{◌≡◌, length, map, IfOk};
 ghost use Rattle.engine_cases.specs.Patterns.{code_of, tie_of};
 
 use crate::random::Random;
@@ -77,12 +77,14 @@ impl Drawn for Pay {
 }
 
 // A graph of n vertices with a tie between about one in `sparse` ordered pairs.
-pub(crate) fn draw_sample<L: Drawn>(
+pub fn draw_sample<L: Drawn>(
     heap: Global,
     random: &mut Random,
     n: usize,
     sparse: u64,
-) -> Result<Sample<L>, AllocError> {
+) -> Result<Sample<L>, AllocError>
+    ensures { IfOk result (λ s. length s.labels.items ≡ n) }
+{
     let mut labels = Vec::new(heap);
     let mut ties = Vec::new(heap);
     for from in 0..n {
